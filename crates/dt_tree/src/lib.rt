@@ -1,0 +1,16 @@
+//! What a script is read into: tokens, and the trees that they spell. Types alone.
+//!
+//! - `token`: `Token`, its `Sign` and `Literal`, and `Placed`, a token with its `Place`.
+//! - `tree`: `Script`, `Stmt`, `Expr` and the parts of an expression.
+//!
+//! The types stand below the definitions, which name them: contracts see them as plain data, so
+//! the trees that code holds are the trees that the definitions speak of. A list inside a tree is
+//! an `Items` and a box a `Boxed`, for the same reason: contracts see the list, and the value.
+//! `dt_script`, which reads a script, names all of them again.
+#![tactic(auto)]
+
+mod token;
+mod tree;
+
+pub use token::{Literal, Place, Placed, Sign, Token};
+pub use tree::{Arg, BinOp, Bracket, Expr, Script, Second, Stmt, Tail};
