@@ -1,0 +1,3 @@
+pub mod GrammarTrees
+pub mod Grammar
+pub mod FirstFault
