@@ -1,3 +1,5 @@
 pub mod GrammarTrees
 pub mod Grammar
 pub mod FirstFault
+pub mod TokenView
+pub mod TreeView
