@@ -5,3 +5,10 @@ pub mod Messages
 pub mod Printed
 pub mod TokenView
 pub mod TreeView
+pub mod Bytes
+pub mod First
+pub mod Places
+pub mod Signs
+pub mod TextBodies
+pub mod TokenLaws
+pub mod Tokens

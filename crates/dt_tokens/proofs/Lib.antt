@@ -1,0 +1,14 @@
+pub mod Places
+pub mod Numbers
+pub mod Ascii
+pub mod Texts
+pub mod Utf8Texts
+pub mod Cuts
+pub mod Mark
+pub mod One
+pub mod LongestSigns
+pub mod Bodies
+pub mod Examples
+pub mod Runs
+pub mod Lines
+pub mod Leads
