@@ -2,7 +2,9 @@
 --   Vector            the type, and the cells in order
 --   IsVector v        each cell is NA or of the type, and there are at most 16,777,216
 --   cell_at cells p   the cell at a place, counted from 0
+--   IsWithin n o      an optional place is none, or one of the first n
 --   picked cells o    the cell at an optional place; NA for none
+--   gathered v places the vector of the cells of v at these places, in their order
 use Rattle.std.specs.Prelude.{ℕ, suc, List, length, ◌≤◌, All, Option, None, Some, map, slice_index_or}
 use Rattle.dt_base.specs.declared.cell.Cell.{Cell}
 use Rattle.dt_base.specs.declared.cell.Cell.TheVariants.{Na}
@@ -32,3 +34,7 @@ IsWithin n (Some p) = suc p ≤ n
 abbrev pub picked : List Cell → Option ℕ → Cell
 picked cells None = Na
 picked cells (Some p) = cell_at cells p
+
+-- the vector of the cells at these places, in their order, with NA for none
+abbrev pub gathered : Vector → List (Option ℕ) → Vector
+gathered v places = record { kind = v.kind; cells = map (picked v.cells) places }
