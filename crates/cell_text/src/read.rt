@@ -7,7 +7,7 @@ ghost use Rattle.dt_model.specs.Spelling as spelling;
 /// The integer that the bytes spell: one or more decimal digits, with `-`, `+` or nothing before
 /// them, and a value from -(2^63 - 1) to 2^63 - 1. `None` where they spell none.
 ///
-/// dtq's own rule, docs/LANGUAGE.md, section Coercion.
+/// dtq's own rule, docs/LANGUAGE.md, section "Conversion between types".
 pub fn integer_of(bytes: &[u8]) -> Option<i64>
     ensures value { result ≡ spelling.integer_of bytes.now }
     ensures cell { IfSome result (λ n. IsOfType ty.Int (cell.Int n)) }
