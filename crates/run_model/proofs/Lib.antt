@@ -1,2 +1,3 @@
 mod PrintedExamples
 mod MessageExamples
+mod FirstPathExamples
