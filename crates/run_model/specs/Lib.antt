@@ -12,3 +12,4 @@ pub mod TokenLaws
 pub mod TokenView
 pub mod Tokens
 pub mod TreeView
+pub mod Misplaced
