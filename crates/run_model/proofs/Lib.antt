@@ -1,0 +1,2 @@
+mod PrintedExamples
+mod MessageExamples
