@@ -1,2 +1,5 @@
 pub mod Messages
 pub mod Printed
+pub mod GrammarTrees
+pub mod Grammar
+pub mod FirstFault
