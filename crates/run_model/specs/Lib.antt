@@ -3,3 +3,5 @@ pub mod Printed
 pub mod GrammarTrees
 pub mod Grammar
 pub mod FirstFault
+pub mod TokenView
+pub mod TreeView
