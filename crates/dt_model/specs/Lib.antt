@@ -1,2 +1,5 @@
 pub mod Table
 pub mod Vector
+pub mod Spelling
+pub mod Coercion
+pub mod Operations
