@@ -13,3 +13,10 @@ pub mod TokenView
 pub mod Tokens
 pub mod TreeView
 pub mod Misplaced
+pub mod Messages
+pub mod Printed
+pub mod GrammarTrees
+pub mod Grammar
+pub mod FirstFault
+pub mod TokenView
+pub mod TreeView
