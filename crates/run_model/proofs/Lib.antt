@@ -1,2 +1,2 @@
-mod PrintedExamples
 mod MessageExamples
+mod PrintedExamples

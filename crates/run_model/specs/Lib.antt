@@ -4,6 +4,7 @@ pub mod FirstFault
 pub mod Grammar
 pub mod GrammarTrees
 pub mod Messages
+pub mod Misplaced
 pub mod Places
 pub mod Printed
 pub mod Signs
@@ -11,12 +12,4 @@ pub mod TextBodies
 pub mod TokenLaws
 pub mod TokenView
 pub mod Tokens
-pub mod TreeView
-pub mod Misplaced
-pub mod Messages
-pub mod Printed
-pub mod GrammarTrees
-pub mod Grammar
-pub mod FirstFault
-pub mod TokenView
 pub mod TreeView
