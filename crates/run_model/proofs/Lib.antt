@@ -1,2 +1,3 @@
 mod MessageExamples
 mod PrintedExamples
+mod FirstPathExamples

@@ -1,8 +1,10 @@
 pub mod Bytes
 pub mod First
 pub mod FirstFault
+pub mod FirstPath
 pub mod Grammar
 pub mod GrammarTrees
+pub mod IntegerFile
 pub mod Messages
 pub mod Misplaced
 pub mod Places
