@@ -4,12 +4,13 @@ pub mod FirstFault
 pub mod Grammar
 pub mod GrammarTrees
 pub mod Messages
+pub mod Misplaced
 pub mod Places
 pub mod Printed
+pub mod Reading
 pub mod Signs
 pub mod TextBodies
 pub mod TokenLaws
 pub mod TokenView
 pub mod Tokens
 pub mod TreeView
-pub mod Misplaced
