@@ -9,6 +9,7 @@ pub mod Messages
 pub mod Misplaced
 pub mod Places
 pub mod Printed
+pub mod Reading
 pub mod Signs
 pub mod TextBodies
 pub mod TokenLaws
