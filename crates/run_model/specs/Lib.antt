@@ -12,3 +12,6 @@ pub mod TokenLaws
 pub mod TokenView
 pub mod Tokens
 pub mod TreeView
+pub mod GrammarTrees
+pub mod Grammar
+pub mod FirstFault
