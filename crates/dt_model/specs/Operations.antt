@@ -229,10 +229,14 @@ settled outcomes = unless_at (position is_outside outcomes) (map given outcomes)
 abbrev pub at_places : {A : Type 0} → ℕ → (ℕ → A) → List A
 at_places n f = map f (range_with_len 0 n)
 
+-- the outcome where two lists of cells meet at a place
+abbrev pub at_place : (Cell → Cell → Outcome) → List Cell → List Cell → ℕ → Outcome
+at_place f a b p = f (cell_for a p) (cell_for b p)
+
 -- an operation over all places of two lists of cells
 abbrev pub over_places : (Cell → Cell → Outcome) → List Cell → List Cell → Option ℕ → Result (List Cell) OpFault
 over_places f a b None = Err (Length (length a) (length b))
-over_places f a b (Some n) = settled (at_places n (λ p. f (cell_for a p) (cell_for b p)))
+over_places f a b (Some n) = settled (at_places n (at_place f a b))
 
 abbrev pub over_cells : (Cell → Cell → Outcome) → List Cell → List Cell → Result (List Cell) OpFault
 over_cells f a b = over_places f a b (joint (length a) (length b))

@@ -1,3 +1,3 @@
+mod FirstPathExamples
 mod MessageExamples
 mod PrintedExamples
-mod FirstPathExamples
