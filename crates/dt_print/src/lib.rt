@@ -17,5 +17,6 @@
 
 mod cells;
 mod messages;
+mod page;
 
-pub use messages::fault_line;
+pub use messages::{fault_line, warn_lines};

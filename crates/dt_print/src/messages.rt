@@ -1,9 +1,11 @@
 //! The lines of faults and warnings. The texts of the codes stand here in one table.
 ghost use Rattle.std.specs.Prelude.{◌≡◌, ◌++◌, OnOk, IfOk, decimal, codes};
-ghost use Rattle.run_model.specs.Messages.{code_name, group_text, encoding_text, fault_text, line_start, printed_fault};
+ghost use Rattle.run_model.specs.Messages.{code_name, group_text, encoding_text, fault_text, line_start, printed_fault, warn_name, warn_text, warn_line, printed_warns};
+ghost use Rattle.std.specs.List.{flat_map};
+ghost use Rattle.dt_print.specs.Given.{line_if_given};
 
 use crate::cells::push_number;
-use dt_base::{Code, Fault};
+use dt_base::{Code, Fault, Warn, Warns};
 use std::alloc::{AllocError, Global};
 
 fn code_letters(code: Code) -> &'static str
@@ -172,5 +174,81 @@ pub fn fault_line(alloc: Global, line: u32, f: &Fault) -> Result<Vec<u8>, AllocE
     push_line_start(&mut out, "Error ", code_letters(f.code), line)?;
     push_fault_text(&mut out, f)?;
     push_words(&mut out, "\n")?;
+    Ok(out)
+}
+
+/// All warnings, by their numbers.
+const WARNINGS: [Warn; 6] = [
+    Warn::W01,
+    Warn::W02,
+    Warn::W03,
+    Warn::W04,
+    Warn::W05,
+    Warn::W06,
+];
+
+fn warn_letters(warn: Warn) -> &'static str
+    ensures { result.now ≡ warn_name warn }
+{
+    match warn {
+        Warn::W01 => "W01",
+        Warn::W02 => "W02",
+        Warn::W03 => "W03",
+        Warn::W04 => "W04",
+        Warn::W05 => "W05",
+        Warn::W06 => "W06",
+    }
+}
+
+fn warn_words(warn: Warn) -> &'static str
+    ensures { result.now ≡ warn_text warn }
+{
+    match warn {
+        Warn::W01 => "integer became TRUE",
+        Warn::W02 => "text became NA",
+        Warn::W03 => "min or max of nothing",
+        Warn::W04 => "dcast counts duplicates",
+        Warn::W05 => "melt joins several types",
+        Warn::W06 => "column names repaired",
+    }
+}
+
+fn push_warning(out: &mut Vec<u8>, line: u32, warn: Warn) -> Result<(), AllocError>
+    ensures { OnOk result (out.new.items ≡ out.old.items ++ warn_line line warn) }
+{
+    push_line_start(out, "Warning ", warn_letters(warn), line)?;
+    push_told(out, "", warn_words(warn), "\n")
+}
+
+/// Adds the line of a warning, if it is one of these.
+fn push_if_given(out: &mut Vec<u8>, line: u32, warns: Warns, warn: Warn) -> Result<(), AllocError>
+    ensures { OnOk result (out.new.items ≡ out.old.items ++ line_if_given line warns warn) }
+{
+    if warns.has(warn) {
+        push_warning(out, line, warn)
+    } else {
+        Ok(())
+    }
+}
+
+/// Adds the lines of those of some warnings that are in the set.
+fn push_given(out: &mut Vec<u8>, line: u32, warns: Warns, among: &[Warn]) -> Result<(), AllocError>
+    ensures { OnOk result (out.new.items ≡ out.old.items ++ flat_map (line_if_given line warns) among.now) }
+{
+    for warn in among {
+        push_if_given(out, line, warns, *warn)?;
+    }
+    Ok(())
+}
+
+/// The lines of a statement's warnings: each of the set once, in the order of their numbers. The
+/// empty set has no line. Lines of the script count from 1.
+///
+/// dtq's own rule, docs/LANGUAGE.md, section Warnings.
+pub fn warn_lines(alloc: Global, line: u32, warns: Warns) -> Result<Vec<u8>, AllocError>
+    ensures { IfOk result (λ v. v.items ≡ printed_warns line warns) }
+{
+    let mut out = Vec::new(alloc);
+    push_given(&mut out, line, warns, &WARNINGS)?;
     Ok(out)
 }

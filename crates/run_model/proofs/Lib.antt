@@ -1,3 +1,3 @@
-mod PrintedExamples
-mod MessageExamples
 mod FirstPathExamples
+mod MessageExamples
+mod PrintedExamples

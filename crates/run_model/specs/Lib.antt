@@ -6,8 +6,10 @@ pub mod Grammar
 pub mod GrammarTrees
 pub mod IntegerFile
 pub mod Messages
+pub mod Misplaced
 pub mod Places
 pub mod Printed
+pub mod Reading
 pub mod Signs
 pub mod TextBodies
 pub mod TokenLaws

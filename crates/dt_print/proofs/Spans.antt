@@ -1,0 +1,119 @@
+-- Ranges of places, what is shown of a list, and the greatest of some numbers.
+use Rattle.std.proofs.Common.{◌≡◌, ◌∙◌, ℕ, zero, suc, ◌+◌, ◌-◌, ◌<◌, ◌≤◌, Bool, true, false, cond, max, List, [], ◌∷◌, ◌++◌, length, take, drop, get_or, refl, sym, ap, arith, append_assoc, add-one, length-append}
+use Rattle.std.specs.Prelude.{map, nat_le, if◌then◌else◌, codes}
+use Rattle.std.specs.List.{flat_map, range_with_len, take-map, drop-map}
+use Rattle.std.proofs.lemmas.List.{map-append, length-map, append-nil}
+use Rattle.std.proofs.lemmas.List.FromFn.{length-range_with_len, length-map-range_with_len}
+use Rattle.std.proofs.lemmas.Grind.{flat_map-append}
+use Rattle.std.proofs.lemmas.List.Folds.{flat_map-map}
+use Rattle.std.proofs.lemmas.Bool.Decides.{nat_tests}
+use Rattle.run_model.specs.Printed.{greatest, shown, elided, lines_text}
+use Rattle.dt_print.specs.Lines.{first_count, last_start, dashes}
+
+-- one place more at the end of a range
+pub range-suc : (a n : ℕ) → range_with_len a (suc n) ≡ range_with_len a n ++ (a + n) ∷ []
+range-suc a zero = ap (λ k. k ∷ []) (omega arith)
+range-suc a (suc n) =
+    ap (λ r. a ∷ r) (range-suc (a + 1) n ∙ ap (λ k. range_with_len (a + 1) n ++ k ∷ []) (omega arith))
+
+-- one place more of the places from one up to another
+pub range_more : (from p : ℕ) → from ≤ p → range_with_len from (p + 1 - from) ≡ range_with_len from (p - from) ++ p ∷ []
+range_more from p h =
+    ap (λ k. range_with_len from k) (let e : p + 1 - from ≡ suc (p - from) = omega arith in e)
+    ∙ range-suc from (p - from)
+    ∙ ap (λ k. range_with_len from (p - from) ++ k ∷ []) (let e : from + (p - from) ≡ p = omega arith in e)
+
+pub flat_map-range_more : (f : ℕ → List ℕ) (from p : ℕ) → from ≤ p
+    → flat_map f (range_with_len from (p + 1 - from)) ≡ flat_map f (range_with_len from (p - from)) ++ f p
+flat_map-range_more f from p h =
+    ap (flat_map f) (range_more from p h) ∙ flat_map-append f (range_with_len from (p - from)) (p ∷ [])
+    ∙ ap (λ r. flat_map f (range_with_len from (p - from)) ++ r) (append-nil (f p))
+
+pub greatest-append : (ns ms : List ℕ) → greatest (ns ++ ms) ≡ max (greatest ns) (greatest ms)
+greatest-append [] ms = omega arith
+greatest-append (n ∷ ns) ms = ap (max n) (greatest-append ns ms) ∙ max_assoc n (greatest ns) (greatest ms)
+  where
+    max_assoc : (a b c : ℕ) → max a (max b c) ≡ max (max a b) c
+    max_assoc a b c = omega arith
+
+pub greatest-range_more : (f : ℕ → ℕ) (from p : ℕ) → from ≤ p
+    → greatest (map f (range_with_len from (p + 1 - from))) ≡ max (greatest (map f (range_with_len from (p - from)))) (f p)
+greatest-range_more f from p h =
+    ap (λ r. greatest (map f r)) (range_more from p h)
+    ∙ ap greatest (map-append f (range_with_len from (p - from)) (p ∷ []))
+    ∙ greatest-append (map f (range_with_len from (p - from))) (f p ∷ [])
+    ∙ ap (max (greatest (map f (range_with_len from (p - from))))) (let e : max (f p) 0 ≡ f p = omega arith in e)
+
+-- the first places of a range, and those behind them
+pub take-range : (a n k : ℕ) → k ≤ n → take k (range_with_len a n) ≡ range_with_len a k
+take-range a n zero h = refl
+take-range a zero (suc k) h = absurd (omega arith)
+take-range a (suc n) (suc k) h = ap (λ r. a ∷ r) (take-range (a + 1) n k (omega arith))
+
+pub drop-range : (a n k : ℕ) → k ≤ n → drop k (range_with_len a n) ≡ range_with_len (a + k) (n - k)
+drop-range a n zero h =
+    ap (λ b. range_with_len b n) (let e : a ≡ a + 0 = omega arith in e)
+    ∙ ap (λ k. range_with_len (a + 0) k) (let e : n ≡ n - 0 = omega arith in e)
+drop-range a zero (suc k) h = absurd (omega arith)
+drop-range a (suc n) (suc k) h =
+    drop-range (a + 1) n k (omega arith)
+    ∙ ap (λ b. range_with_len b (n - k)) (let e : a + 1 + k ≡ a + suc k = omega arith in e)
+    ∙ ap (λ m. range_with_len (a + suc k) m) (let e : n - k ≡ suc n - suc k = omega arith in e)
+
+-- what is shown of a list by places
+pub shown-map : {X Y : Type 0} (f : X → Y) (xs : List X) → shown (map f xs) ≡ map f (shown xs)
+shown-map f xs =
+    rw length-map (by_size (nat_le (length xs) 100))
+  where
+    by_size : (b : Bool) → cond b (map f xs) (take 5 (map f xs) ++ drop (length xs - 5) (map f xs)) ≡ map f (cond b xs (take 5 xs ++ drop (length xs - 5) xs))
+    by_size true = refl
+    by_size false =
+        rw (take-map f 5 xs, drop-map f (length xs - 5) xs) (sym (map-append f (take 5 xs) (drop (length xs - 5) xs)))
+
+-- a list of more than a hundred has five
+above_five : (n : ℕ) → nat_le n 100 ≡ false → 5 ≤ n
+above_five n h = grind (arith, nat_tests)
+
+-- the places that are shown: the first ones, and the last ones
+pub shown-range : (n : ℕ) → shown (range_with_len 0 n)
+    ≡ range_with_len 0 (first_count n) ++ range_with_len (last_start n) (n - last_start n)
+shown-range n = rw length-range_with_len (by_size (nat_le n 100) (above_five n))
+  where
+    by_size : (b : Bool) → (b ≡ false → 5 ≤ n)
+        → cond b (range_with_len 0 n) (take 5 (range_with_len 0 n) ++ drop (n - 5) (range_with_len 0 n))
+        ≡ range_with_len 0 (cond b n 5) ++ range_with_len (cond b n (n - 5)) (n - cond b n (n - 5))
+    by_size true h =
+        sym (append-nil (range_with_len 0 n))
+        ∙ ap (λ k. range_with_len 0 n ++ range_with_len n k) (let e : 0 ≡ n - n = omega arith in e)
+    by_size false h =
+        let five : 5 ≤ n = h refl in
+        rw (take-range 0 n 5 five, drop-range 0 n (n - 5) (omega arith))
+        (ap (λ k. range_with_len 0 5 ++ range_with_len k (n - (n - 5))) (let e : 0 + (n - 5) ≡ n - 5 = omega arith in e))
+
+lines_text-append : (ls ms : List (List ℕ)) → lines_text (ls ++ ms) ≡ lines_text ls ++ lines_text ms
+lines_text-append ls ms = flat_map-append (λ l. l ++ codes "\n") ls ms
+
+-- the lines that are shown, with their line feeds
+pub lines_text-elided : (f : ℕ → List ℕ) (n : ℕ) → lines_text (elided (map f (range_with_len 0 n)))
+    ≡ lines_text (map f (range_with_len 0 (first_count n))) ++ dashes n ++ lines_text (map f (range_with_len (last_start n) (n - last_start n)))
+lines_text-elided f n = rw length-map-range_with_len (by_size (nat_le n 100) (above_five n))
+  where
+    by_size : (b : Bool) → (b ≡ false → 5 ≤ n)
+        → lines_text (cond b (map f (range_with_len 0 n)) (take 5 (map f (range_with_len 0 n)) ++ (codes "---" ∷ drop (n - 5) (map f (range_with_len 0 n)))))
+        ≡ lines_text (map f (range_with_len 0 (cond b n 5))) ++ cond b [] (codes "---\n") ++ lines_text (map f (range_with_len (cond b n (n - 5)) (n - cond b n (n - 5))))
+    by_size true h =
+        let none : n - n ≡ 0 = omega arith in
+        let all : List ℕ = lines_text (map f (range_with_len 0 n)) in
+        rw none (sym (append-nil (all ++ []) ∙ append-nil all))
+    by_size false h =
+        let five : 5 ≤ n = h refl in
+        let start : 0 + (n - 5) ≡ n - 5 = omega arith in
+        let first : List (List ℕ) = map f (range_with_len 0 5) in
+        let last : List (List ℕ) = map f (range_with_len (n - 5) (n - (n - 5))) in
+        rw (take-map f 5 (range_with_len 0 n), drop-map f (n - 5) (range_with_len 0 n), take-range 0 n 5 five, drop-range 0 n (n - 5) (omega arith), start)
+        (lines_text-append first (codes "---" ∷ last)
+        ∙ sym (append_assoc (lines_text first) (codes "---\n") (lines_text last)))
+
+-- the lines of places, each with its line feed
+pub lines_text-map : (f : ℕ → List ℕ) (ps : List ℕ) → lines_text (map f ps) ≡ flat_map (λ p. f p ++ codes "\n") ps
+lines_text-map f ps = flat_map-map (λ l. l ++ codes "\n") f ps
