@@ -3,6 +3,8 @@
 --   End                   how a script ends: the state, the world, how many statements were done,
 --                         and the fault with its line
 --   plain stmts s w n     the end of these statements, after n others
+--   Did line o s now w v  the statement was done, and left this state and this world
+--   IsEnd e now v         the script ended without a fault, with this state and this world
 --   Cut stmts j l s w now v
 --                         the run was cut off in statement j + 1, which stands on line l
 --   script_fault f        the fault that a refused script tells; line_of f is its line
@@ -50,6 +52,15 @@ goes_on line (Err f) rest s w n = stopped line f s w n
 abbrev pub plain : List Stmt → State → World → ℕ → End
 plain [] s w n = record { state = s; world = w; done = n; fault = None }
 plain (x ∷ xs) s w n = goes_on x.line (step (look w.files) s x) (plain xs) s w n
+
+-- the statement on this line was done: the state and the world are those after its effect
+abbrev pub Did : ℕ → Step → State → State → World → World → Type 0
+Did line (Ok e) s now w v = (now ≡ changed s e.change) × (v ≡ after w (pieces_of line e))
+Did line (Err f) s now w v = ⊥
+
+-- all statements were done, with no fault
+abbrev pub IsEnd : End → State → World → Type 0
+IsEnd e now v = (e.fault ≡ None) × (e.state ≡ now) × (e.world ≡ v)
 
 -- what the statement at hand sends outside, its fault's line included
 abbrev pub sends : ℕ → Step → Pieces
