@@ -35,7 +35,7 @@ parted_none w now e h =
     record {
       files = none_filed w.files now.files e.file (ap (λ v. v.files) h);
       out = none_part w.out now.out e.text (ap (λ v. v.out) h);
-      err = none_part w.err now.err e.lines (ap (λ v. v.err) h)
+      err = none_part w.err now.err e.lines (ap (λ v. v.err) h);
     }
 
 -- all was put
@@ -44,7 +44,7 @@ parted_whole w now e h =
     record {
       files = whole_filed w.files now.files e.file (ap (λ v. v.files) h);
       out = whole_part w.out now.out e.text (ap (λ v. v.out) h);
-      err = whole_part w.err now.err e.lines (ap (λ v. v.err) h)
+      err = whole_part w.err now.err e.lines (ap (λ v. v.err) h);
     }
 
 -- the file's write failed, after the text was put
@@ -66,7 +66,7 @@ told_part line o f w v e is h p =
     (record {
       files = ap (λ u. u.files) h;
       out = none_part w.out v.out [] (ap (λ u. u.out) h);
-      err = rw (← ap (λ u. u.err) h) p
+      err = rw (← ap (λ u. u.err) h) p;
     })
 
 -- a count that rose later rose

@@ -19,7 +19,7 @@ reached_first ls s w =
     record {
       plain = refl;
       done = refl;
-      cut = λ j line now v h. let e : j ≡ 0 + j = omega arith in subst (λ k. Cut ls k line s w now v) e h
+      cut = λ j line now v h. let e : j ≡ 0 + j = omega arith in subst (λ k. Cut ls k line s w now v) e h;
     }
 
 goes : (line : ℕ) (o : Step) (rest : State → World → ℕ → End) (s s1 : State) (w w1 : World) (n : ℕ) → Did line o s s1 w w1 → goes_on line o rest s w n ≡ rest s1 w1 (n + 1)
@@ -40,9 +40,9 @@ reached_next ls s0 w0 i l s s1 w w1 n r h e d =
       plain = r.plain ∙ ap (λ xs. plain xs s w n) (left_at ls i l h e) ∙ goes l.line (step (look w.files) s l) (plain (drop (i + 1) ls)) s s1 w w1 n d;
       done = ap (λ k. k + 1) r.done;
       cut = λ j line now v k.
-        let more : Cut (drop i ls) (suc j) line s w now v = subst (λ xs. Cut xs (suc j) line s w now v) (sym (left_at ls i l h e)) (goes_to l.line (step (look w.files) s l) (λ t u. Cut (drop (i + 1) ls) j line t u now v) s s1 w w1 d k) in
-        let same : i + suc j ≡ (i + 1) + j = omega arith in
-        subst (λ m. Cut ls m line s0 w0 now v) same (r.cut (suc j) line now v more)
+          let more : Cut (drop i ls) (suc j) line s w now v = subst (λ xs. Cut xs (suc j) line s w now v) (sym (left_at ls i l h e)) (goes_to l.line (step (look w.files) s l) (λ t u. Cut (drop (i + 1) ls) j line t u now v) s s1 w w1 d k) in
+          let same : i + suc j ≡ (i + 1) + j = omega arith in
+          subst (λ m. Cut ls m line s0 w0 now v) same (r.cut (suc j) line now v more);
     }
 
 -- the statement at i is refused with this fault, and its line is put

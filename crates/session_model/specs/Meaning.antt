@@ -205,8 +205,8 @@ unserved = record { form = Other; served = false; gives = λ w. Err unbuilt; com
 abbrev pub negated : Form → Meaning
 negated form =
     elim (negative form) [
-      None ↦ unserved
-    | Some n ↦ record { form = Negative n; served = true; gives = λ w. gives_value (Cells (one_cell ty.Int (is.Int n))); command = None }
+      | None ↦ unserved
+      | Some n ↦ record { form = Negative n; served = true; gives = λ w. gives_value (Cells (one_cell ty.Int (is.Int n))); command = None }
     ]
 
 abbrev pub expr_step : Expr-F Meaning Meaning ArgMeaning Meaning Meaning → Meaning
