@@ -1,4 +1,4 @@
-use Rattle.std.proofs.Common.{◌≡◌, length, ap, ◌∙◌, sym, arith}
+use Rattle.std.proofs.Common.{◌≡◌, length, ◌∙◌, sym, arith}
 use Rattle.na_vector.proofs.Gathering.{vectors_of-same, rows_with-more, length-more, touches-more, touches-within}
 use Rattle.na_vector.proofs.frame.Frame.copy.Goals as goal
 

@@ -1,4 +1,4 @@
-use Rattle.std.proofs.Common.{◌≡◌, length, arith, ap, ◌∙◌, sym, refl}
+use Rattle.std.proofs.Common.{◌≡◌, length, arith, ◌∙◌, sym}
 use Rattle.std.proofs.lemmas.List.{length-map}
 use Rattle.na_vector.proofs.Gathering.{vectors_of-more, rows_with-more, length-more, touches-more, touches-within}
 use Rattle.na_vector.proofs.frame.Frame.gather.Goals as goal
