@@ -1,3 +1,4 @@
 mod FirstPathExamples
 mod MessageExamples
 mod PrintedExamples
+mod CsvExamples
