@@ -1,5 +1,5 @@
 -- Ranges of places, what is shown of a list, and the greatest of some numbers.
-use Rattle.std.proofs.Common.{◌≡◌, ◌∙◌, ℕ, zero, suc, ◌+◌, ◌-◌, ◌<◌, ◌≤◌, Bool, true, false, cond, max, List, [], ◌∷◌, ◌++◌, length, take, drop, get_or, refl, sym, ap, arith, append_assoc, add-one, length-append}
+use Rattle.std.proofs.Common.{◌≡◌, ◌∙◌, ℕ, zero, suc, ◌+◌, ◌-◌, ◌*◌, ◌<◌, ◌≤◌, Bool, true, false, cond, max, List, [], ◌∷◌, ◌++◌, length, take, drop, get_or, refl, sym, ap, arith, append_assoc, add-one, length-append}
 use Rattle.std.specs.Prelude.{map, nat_le, if◌then◌else◌, codes}
 use Rattle.std.specs.List.{flat_map, range_with_len, take-map, drop-map}
 use Rattle.std.proofs.lemmas.List.{map-append, length-map, append-nil}
@@ -117,3 +117,15 @@ lines_text-elided f n = rw length-map-range_with_len (by_size (nat_le n 100) (ab
 -- the lines of places, each with its line feed
 pub lines_text-map : (f : ℕ → List ℕ) (ps : List ℕ) → lines_text (map f ps) ≡ flat_map (λ p. f p ++ codes "\n") ps
 lines_text-map f ps = flat_map-map (λ l. l ++ codes "\n") f ps
+
+-- A loop over places: the widest so far, and one place more.
+pub widest_more : (f : ℕ → ℕ) (from p widest width result : ℕ) → from ≤ p
+    → widest ≡ greatest (map f (range_with_len from (p - from))) → width ≡ f p → result ≡ max widest width
+    → result ≡ greatest (map f (range_with_len from (p + 1 - from)))
+widest_more f from p widest width result h so_far here is_max =
+    is_max ∙ (λ i. max (so_far i) (here i)) ∙ sym (greatest-range_more f from p h)
+
+-- A loop over columns: as many touches for each.
+pub touches_more : (before start after k each : ℕ) → before ≡ start + k * each → after ≡ before + each
+    → after ≡ start + (k + 1) * each
+touches_more before start after k each so_far here = omega arith

@@ -1,6 +1,7 @@
 -- The lines of a table, said of a frame's columns and of widths that are given.
 --   first_count n, last_start n     how many rows are shown first, and where the last ones start
 --   shown_count n                   how many rows are shown
+--   label_width_at p, cell_width_at v p   the width of a label and of a cell
 --   width_in name v                 the width of a column of this name and vector
 --   frame_cell columns p c          the text of row p in column c
 --   names_part, cells_part          what follows the label in the header and in a row
@@ -23,6 +24,14 @@ last_start n = if nat_le n 100 then n else n - 5
 -- how many rows are shown
 abbrev pub shown_count : ℕ → ℕ
 shown_count n = first_count n + (n - last_start n)
+
+-- the width of the label of the row at a place
+abbrev pub label_width_at : ℕ → ℕ
+label_width_at p = characters (label (p + 1))
+
+-- the width of a vector's cell at a place
+abbrev pub cell_width_at : Vector → ℕ → ℕ
+cell_width_at v p = characters (cell_text v.kind (cell_at v.cells p))
 
 -- the width of a column of this name and vector
 unfoldable pub width_in : List ℕ → Vector → ℕ

@@ -18,5 +18,6 @@
 mod cells;
 mod messages;
 mod page;
+mod widths;
 
 pub use messages::{fault_line, warn_lines};
