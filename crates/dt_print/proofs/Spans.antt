@@ -129,3 +129,43 @@ widest_more f from p widest width result h so_far here is_max =
 pub touches_more : (before start after k each : ℕ) → before ≡ start + k * each → after ≡ before + each
     → after ≡ start + (k + 1) * each
 touches_more before start after k each so_far here = omega arith
+
+-- A loop that adds to a text: what it added so far, and what it adds at one place more.
+pub added_more : (f : ℕ → List ℕ) (from p : ℕ) (start before after added : List ℕ) → from ≤ p
+    → before ≡ start ++ flat_map f (range_with_len from (p - from)) → after ≡ before ++ added → added ≡ f p
+    → after ≡ start ++ flat_map f (range_with_len from (p + 1 - from))
+added_more f from p start before after added h so_far more here =
+    more ∙ (λ i. so_far i ++ here i)
+    ∙ append_assoc start (flat_map f (range_with_len from (p - from))) (f p)
+    ∙ ap (λ r. start ++ r) (sym (flat_map-range_more f from p h))
+
+-- the same from place 0 on
+pub added_next : (f : ℕ → List ℕ) (p : ℕ) (start before after added : List ℕ)
+    → before ≡ start ++ flat_map f (range_with_len 0 p) → after ≡ before ++ added → added ≡ f p
+    → after ≡ start ++ flat_map f (range_with_len 0 (p + 1))
+added_next f p start before after added so_far more here =
+    more ∙ (λ i. so_far i ++ here i)
+    ∙ append_assoc start (flat_map f (range_with_len 0 p)) (f p)
+    ∙ ap (λ r. start ++ r) (sym (ap (flat_map f) (ap (λ k. range_with_len 0 k) (add-one p) ∙ range-suc 0 p)
+    ∙ flat_map-append f (range_with_len 0 p) ((0 + p) ∷ [])
+    ∙ ap (λ r. flat_map f (range_with_len 0 p) ++ r) (append-nil (f (0 + p)) ∙ ap f (let e : 0 + p ≡ p = omega arith in e))))
+
+-- an element does not depend on what would stand past the end
+pub get_or-any : {X : Type 0} (xs : List X) (k : ℕ) (d e : X) → k < length xs → get_or xs k d ≡ get_or xs k e
+get_or-any [] k d e h = absurd (omega arith)
+get_or-any (x ∷ xs) zero d e h = refl
+get_or-any (x ∷ xs) (suc k) d e h = get_or-any xs k d e (omega arith)
+
+-- three pieces added one after another
+pub three_added : (start first second third x y z : List ℕ) → first ≡ start ++ x → second ≡ first ++ y → third ≡ second ++ z
+    → third ≡ start ++ (x ++ y ++ z)
+three_added start first second third x y z e f h =
+    h ∙ ap (λ r. r ++ z) (f ∙ ap (λ r. r ++ y) e)
+    ∙ append_assoc (start ++ x) y z ∙ append_assoc start x (y ++ z) ∙ ap (λ r. start ++ r) (sym (append_assoc x y z))
+
+-- A loop over rows: as many touches for each.
+pub touches_from : (before start after from p each : ℕ) → from ≤ p → before ≡ start + (p - from) * each → after ≡ before + each
+    → after ≡ start + (p + 1 - from) * each
+touches_from before start after from p each h so_far here =
+    touches_more before start after (p - from) each so_far here
+    ∙ ap (λ k. start + k * each) (let e : p - from + 1 ≡ p + 1 - from = omega arith in e)

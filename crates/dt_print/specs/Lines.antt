@@ -7,8 +7,9 @@
 --   names_part, cells_part          what follows the label in the header and in a row
 --   frame_line                      the line of a row, with its line feed
 --   dashes n                        the line between the first rows and the last ones
-use Rattle.std.specs.Prelude.{ℕ, ◌+◌, ◌-◌, ◌*◌, nat_le, if◌then◌else◌, max, List, [], ◌∷◌, ◌++◌, map, length, slice_get, slice_index, slice_index_or, codes, Option, None, Some}
-use Rattle.std.specs.List.{flat_map, range_with_len}
+--   empty_text names                a table without rows
+use Rattle.std.specs.Prelude.{ℕ, ◌+◌, ◌-◌, ◌*◌, nat_le, if◌then◌else◌, max, List, [], ◌∷◌, ◌++◌, map, length, slice_get, slice_index, slice_index_or, codes, decimal, Option, None, Some}
+use Rattle.std.specs.List.{flat_map, range_with_len, join_with_byte}
 use Rattle.dt_model.specs.Vector.{Vector, cell_at}
 use Rattle.na_vector.specs.Column.{Seen}
 use Rattle.run_model.specs.Printed.{characters, greatest, aligned, name_text, cell_text, shown, label}
@@ -70,3 +71,9 @@ frame_line label_width widths columns p =
 -- of more than a hundred rows, the line of dashes
 abbrev pub dashes : ℕ → List ℕ
 dashes n = if nat_le n 100 then [] else codes "---\n"
+
+-- a table without rows, of these names
+unfoldable pub empty_text : List (List ℕ) → List ℕ
+empty_text names =
+    codes "Empty data.table (0 rows and " ++ decimal (length names) ++ codes " cols): "
+    ++ join_with_byte 44 (map name_text names) ++ codes "\n"
