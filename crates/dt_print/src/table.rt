@@ -40,7 +40,8 @@ fn push_joined(out: &mut Vec<u8>, names: &[Text]) -> Result<(), AllocError>
         return Ok(());
     };
     push_name(out, first.as_str())?;
-    push_others(out, others)
+    push_others(out, others)?;
+    Ok(())
 }
 
 /// A table with columns and no rows.
