@@ -64,43 +64,43 @@ joined c x [] = sym (append-nil x)
 joined c x (y ∷ ys) = ap (λ r. x ++ c ∷ r) (joined c y ys)
 
 pub joined_names : (start first_put all_put first : List ℕ) (others names : List (List ℕ)) → names ≡ first ∷ others
-  → first_put ≡ start ++ name_text first → all_put ≡ first_put ++ flat_map (λ n. 44 ∷ name_text n) others
-  → all_put ≡ start ++ join_with_byte 44 (map name_text names)
+    → first_put ≡ start ++ name_text first → all_put ≡ first_put ++ flat_map (λ n. 44 ∷ name_text n) others
+    → all_put ≡ start ++ join_with_byte 44 (map name_text names)
 joined_names start first_put all_put first others names e f h =
-  h ∙ (λ i. f i ++ sym (flat_map-map (λ (y : List ℕ). 44 ∷ y) name_text others) i)
+    h ∙ (λ i. f i ++ sym (flat_map-map (λ (y : List ℕ). 44 ∷ y) name_text others) i)
     ∙ append_assoc start (name_text first) (flat_map (λ y. 44 ∷ y) (map name_text others))
     ∙ (λ i. start ++ sym (joined 44 (name_text first) (map name_text others)) i)
     ∙ (λ i. start ++ join_with_byte 44 (map name_text (sym e i)))
 
 -- a table without rows, put piece by piece
 pub empty_put : (names : List (List ℕ)) (count : ℕ) (t0 t1 t2 t3 t4 : List ℕ)
-  → t0 ≡ codes "Empty data.table (0 rows and " → count ≡ length names → t1 ≡ t0 ++ decimal count
-  → t2 ≡ t1 ++ codes " cols): " → t3 ≡ t2 ++ join_with_byte 44 (map name_text names) → t4 ≡ t3 ++ codes "\n"
-  → t4 ≡ empty_text names
+    → t0 ≡ codes "Empty data.table (0 rows and " → count ≡ length names → t1 ≡ t0 ++ decimal count
+    → t2 ≡ t1 ++ codes " cols): " → t3 ≡ t2 ++ join_with_byte 44 (map name_text names) → t4 ≡ t3 ++ codes "\n"
+    → t4 ≡ empty_text names
 unfolding empty_text
 empty_put names count t0 t1 t2 t3 t4 e0 is_count e1 e2 e3 e4 =
-  e4 ∙ (λ i. (e3 ∙ (λ j. (e2 ∙ (λ k. (e1 ∙ (λ l. e0 l ++ decimal (is_count l))) k ++ codes " cols): ")) j
+    e4 ∙ (λ i. (e3 ∙ (λ j. (e2 ∙ (λ k. (e1 ∙ (λ l. e0 l ++ decimal (is_count l))) k ++ codes " cols): ")) j
     ++ join_with_byte 44 (map name_text names))) i ++ codes "\n")
 
 names-heads_of : (names : List (List ℕ)) (columns : List Seen) → length names ≡ length columns
-  → map (λ h. name_text h.name) (heads_of names columns) ≡ map name_text names
+    → map (λ h. name_text h.name) (heads_of names columns) ≡ map name_text names
 names-heads_of [] [] e = refl
 names-heads_of [] (v ∷ columns) e = absurd (omega arith)
 names-heads_of (n ∷ names) [] e = absurd (omega arith)
 names-heads_of (n ∷ names) (v ∷ columns) e = ap (λ r. name_text n ∷ r) (names-heads_of names columns (omega arith))
 
 pub printed-empty : (names : List (List ℕ)) (columns : List Seen) → length names ≡ length columns → 0 < length columns
-  → printed_table (heads_of names columns) [] ≡ empty_text names
+    → printed_table (heads_of names columns) [] ≡ empty_text names
 unfolding empty_text
 printed-empty [] [] e h = absurd (omega arith)
 printed-empty [] (v ∷ columns) e h = absurd (omega arith)
 printed-empty (n ∷ names) [] e h = absurd (omega arith)
 printed-empty (n ∷ names) (v ∷ columns) e h =
-  λ i. codes "Empty data.table (0 rows and " ++ decimal ((length-heads_of (n ∷ names) (v ∷ columns) e ∙ sym e) i) ++ codes " cols): "
+    λ i. codes "Empty data.table (0 rows and " ++ decimal ((length-heads_of (n ∷ names) (v ∷ columns) e ∙ sym e) i) ++ codes " cols): "
     ++ join_with_byte 44 (names-heads_of (n ∷ names) (v ∷ columns) e i) ++ codes "\n"
 
 pub printed-filled : (names : List (List ℕ)) (columns : List Seen) (n : ℕ) → length names ≡ length columns → 0 < length columns → 0 < n
-  → printed_table (heads_of names columns) (rows_of n (vectors_of columns)) ≡ filled_table_text (heads_of names columns) (rows_of n (vectors_of columns))
+    → printed_table (heads_of names columns) (rows_of n (vectors_of columns)) ≡ filled_table_text (heads_of names columns) (rows_of n (vectors_of columns))
 printed-filled [] [] n e h k = absurd (omega arith)
 printed-filled [] (v ∷ columns) n e h k = absurd (omega arith)
 printed-filled (m ∷ names) [] n e h k = absurd (omega arith)
@@ -157,39 +157,39 @@ module _ (names : List (List ℕ)) (columns : List Seen) (n : ℕ) (widths : Lis
 
     -- a table with rows
     pub filled-frame : filled_table_text (heads_of names columns) (rows_of n (vectors_of columns))
-      ≡ (replicate label_is 32 ++ names_part widths names (length names) ++ codes "\n")
+        ≡ (replicate label_is 32 ++ names_part widths names (length names) ++ codes "\n")
         ++ flat_map (frame_line label_is widths columns) (range_with_len 0 (first_count n))
         ++ dashes n
         ++ flat_map (frame_line label_is widths columns) (range_with_len (last_start n) (n - last_start n))
     unfolding filled_table_text
     filled-frame =
-      let f : ℕ → List ℕ = row_line (heads_of names columns) (rows_of n (vectors_of columns)) in
-      let g : ℕ → List ℕ = frame_line label_is widths columns in
-      let head : List ℕ = replicate label_is 32 ++ names_part widths names (length names) ++ codes "\n" in
-      let first : List ℕ = flat_map g (range_with_len 0 (first_count n)) in
-      let last : List ℕ = flat_map g (range_with_len (last_start n) (n - last_start n)) in
-      ap (λ k. (header_line (heads_of names columns) (rows_of n (vectors_of columns)) ++ codes "\n") ++ lines_text (elided (map f (range_with_len 0 k)))) rows_count
+        let f : ℕ → List ℕ = row_line (heads_of names columns) (rows_of n (vectors_of columns)) in
+        let g : ℕ → List ℕ = frame_line label_is widths columns in
+        let head : List ℕ = replicate label_is 32 ++ names_part widths names (length names) ++ codes "\n" in
+        let first : List ℕ = flat_map g (range_with_len 0 (first_count n)) in
+        let last : List ℕ = flat_map g (range_with_len (last_start n) (n - last_start n)) in
+        ap (λ k. (header_line (heads_of names columns) (rows_of n (vectors_of columns)) ++ codes "\n") ++ lines_text (elided (map f (range_with_len 0 k)))) rows_count
         ∙ (λ i. (header-frame i ++ codes "\n") ++ lines_text-elided f n i)
         ∙ (λ i. head ++ ((lines_text-map f (range_with_len 0 (first_count n)) ∙ flat_map-range_same (λ p. f p ++ codes "\n") g 0 (first_count n) n row-frame (first_within n)) i
-            ++ dashes n
-            ++ (lines_text-map f (range_with_len (last_start n) (n - last_start n)) ∙ flat_map-range_same (λ p. f p ++ codes "\n") g (last_start n) (n - last_start n) n row-frame (last_within n)) i))
+        ++ dashes n
+        ++ (lines_text-map f (range_with_len (last_start n) (n - last_start n)) ∙ flat_map-range_same (λ p. f p ++ codes "\n") g (last_start n) (n - last_start n) n row-frame (last_within n)) i))
         ∙ sym (append_assoc head (first ++ dashes n) last)
         ∙ ap (λ r. r ++ last) (sym (append_assoc head first (dashes n)))
 
     -- the pieces, one put after another
     pub filled_put : (first_end last_from : ℕ) (t0 t1 t2 t3 t4 : List ℕ) → t0 ≡ []
-      → t1 ≡ t0 ++ (replicate label_is 32 ++ names_part widths names (length names) ++ codes "\n")
-      → first_end ≡ first_count n → t2 ≡ t1 ++ flat_map (frame_line label_is widths columns) (range_with_len 0 (first_end - 0))
-      → t3 ≡ t2 ++ dashes n
-      → last_from ≡ last_start n → t4 ≡ t3 ++ flat_map (frame_line label_is widths columns) (range_with_len last_from (n - last_from))
-      → t4 ≡ filled_table_text (heads_of names columns) (rows_of n (vectors_of columns))
+        → t1 ≡ t0 ++ (replicate label_is 32 ++ names_part widths names (length names) ++ codes "\n")
+        → first_end ≡ first_count n → t2 ≡ t1 ++ flat_map (frame_line label_is widths columns) (range_with_len 0 (first_end - 0))
+        → t3 ≡ t2 ++ dashes n
+        → last_from ≡ last_start n → t4 ≡ t3 ++ flat_map (frame_line label_is widths columns) (range_with_len last_from (n - last_from))
+        → t4 ≡ filled_table_text (heads_of names columns) (rows_of n (vectors_of columns))
     filled_put first_end last_from t0 t1 t2 t3 t4 e0 e1 is_end e2 e3 is_from e4 =
-      let g : ℕ → List ℕ = frame_line label_is widths columns in
-      e4 ∙ (λ i. (e3 ∙ (λ j. (e2 ∙ (λ k. (e1 ∙ (λ l. e0 l ++ (replicate label_is 32 ++ names_part widths names (length names) ++ codes "\n"))) k
-            ++ flat_map g (range_with_len 0 ((let e : first_end - 0 ≡ first_end = omega arith in e) k)))) j
-            ++ dashes n)) i
-          ++ flat_map g (range_with_len (is_from i) (n - is_from i)))
+        let g : ℕ → List ℕ = frame_line label_is widths columns in
+        e4 ∙ (λ i. (e3 ∙ (λ j. (e2 ∙ (λ k. (e1 ∙ (λ l. e0 l ++ (replicate label_is 32 ++ names_part widths names (length names) ++ codes "\n"))) k
+        ++ flat_map g (range_with_len 0 ((let e : first_end - 0 ≡ first_end = omega arith in e) k)))) j
+        ++ dashes n)) i
+        ++ flat_map g (range_with_len (is_from i) (n - is_from i)))
         ∙ (λ i. (replicate label_is 32 ++ names_part widths names (length names) ++ codes "\n")
-          ++ flat_map g (range_with_len 0 (is_end i)) ++ dashes n
-          ++ flat_map g (range_with_len (last_start n) (n - last_start n)))
+        ++ flat_map g (range_with_len 0 (is_end i)) ++ dashes n
+        ++ flat_map g (range_with_len (last_start n) (n - last_start n)))
         ∙ sym filled-frame
