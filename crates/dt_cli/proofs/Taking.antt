@@ -98,7 +98,6 @@ read_takes cfg (c ∷ rest) s p h e =
     pick (is_end (step cfg s c).1) (Some (this_read cfg s c [] [] rest)) (later_read cfg s c [] [] rest) (λ p. length p.2 < suc (length rest)) (λ _ p e. let left : rest ≡ p.2 = ap (λ q. q.2) (some_is (this_read cfg s c [] [] rest) p e) in rw (← left) (omega arith))
     (λ _ p e. let less : length p.2 ≤ length rest = read_shortens cfg rest (step cfg s c).0 (fields_after (step cfg s c).1 [] []) (field_after (step cfg s c).1 c []) p e in omega arith) p e
 
-
 -- any number of turns above the text's length gives the same records
 abbrev by_fuel : (cfg : Config) (n m : ℕ) (s : State) (xs : List ℕ) (o : Option Read) → next_record cfg s [] [] xs ≡ o → ends_at_end s ≡ false → length xs < suc n → length xs < suc m → Type 0
 by_fuel cfg n m s xs o h b lt gt = records_next (records_from cfg n) o ≡ records_next (records_from cfg m) o
@@ -111,8 +110,8 @@ fuel cfg (suc n) (suc m) s xs lt gt b =
     (elim (next_record cfg s [] [] xs) as (λ o. next_record cfg s [] [] xs ≡ o → records_next (records_from cfg n) o ≡ records_next (records_from cfg m) o) [
       | None ↦ λ e. refl
       | Some p ↦ λ e.
-        let less : length p.2 < length xs = read_takes cfg xs s p b e in
-        ap (λ rest. p.0 ∷ rest) (fuel cfg n m p.1 p.2 (omega arith) (omega arith) (read_settles cfg xs s [] [] p e))
+          let less : length p.2 < length xs = read_takes cfg xs s p b e in
+          ap (λ rest. p.0 ∷ rest) (fuel cfg n m p.1 p.2 (omega arith) (omega arith) (read_settles cfg xs s [] [] p e))
     ]) refl
 
 -- one record is taken
@@ -147,11 +146,11 @@ known_reads s (Some xs) (Some ys) found fields s2 h k b =
 pub record_read : (a b : Reader (Bor (List ℕ))) (found : Bool) (fields : List (List ℕ)) → IsReading a → ReadRecord (λ s. Some s.now) a b found fields → Reads a b found fields
 record_read a b found fields i r =
     let next : ReadsNext default_config a.state (source_of (λ s. Some s.now) a) (pending_of (Some b.rdr.now) b) found fields b.state =
-      subst (λ cfg. ReadsNext cfg a.state (source_of (λ s. Some s.now) a) (pending_of (Some b.rdr.now) b) found fields b.state) i.config r.0 in
+    subst (λ cfg. ReadsNext cfg a.state (source_of (λ s. Some s.now) a) (pending_of (Some b.rdr.now) b) found fields b.state) i.config r.0 in
     let same : source_of (λ s. Some s.now) b ≡ pending_of (Some b.rdr.now) b = source_after b r.1 in
     let P : Option (List ℕ) → Type 0 = λ y.
-      (records_left a ≡ taken found fields (records_from default_config (length (unwrap_or y []) + 1) b.state (unwrap_or y [])))
-      × (found ≡ true → (is_some y ≡ true) × (ends_at_end b.state ≡ false)) in
+    (records_left a ≡ taken found fields (records_from default_config (length (unwrap_or y []) + 1) b.state (unwrap_or y [])))
+    × (found ≡ true → (is_some y ≡ true) × (ends_at_end b.state ≡ false)) in
     subst P (sym same)
     (known_reads a.state (source_of (λ s. Some s.now) a) (pending_of (Some b.rdr.now) b) found fields b.state next i.known i.between)
 

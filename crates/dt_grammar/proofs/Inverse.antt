@@ -145,28 +145,28 @@ mutual
   back_tails NoTails rest q = elim (snoc_view rest) [ inl e ↦ sym e | inr r ↦ let p = sym (tails_of-push r.0 r.1) ∙ ap tails_of (sym r.2) ∙ q in absurd cc ]
   back_tails (MoreTails before op t) rest q =
       elim (snoc_view rest) [
-        inl e ↦ let p = ap tails_of (sym e) ∙ q in absurd cc
-      | inr r ↦
-          let p : MoreTails (tails_of r.0) r.1.op (tree_of r.1.arg) ≡ MoreTails before op t = sym (tails_of-push r.0 r.1) ∙ ap tails_of (sym r.2) ∙ q in
-          let a : tails_of r.0 ≡ before = cc in
-          let b : op ≡ r.1.op = cc in
-          let c : tree_of r.1.arg ≡ t = cc in
-          let d : record { op = op; arg = expr_from t } ≡ r.1 = ap₂ (λ o u. record { op = o; arg = u }) b (back t (out-Expr r.1.arg) (opened r.1.arg t c) ∙ roll-out-Expr r.1.arg) in
-          ap₂ (λ y z. y ++ z ∷ []) (back_tails before r.0 a) d ∙ sym r.2
+        | inl e ↦ let p = ap tails_of (sym e) ∙ q in absurd cc
+        | inr r ↦
+            let p : MoreTails (tails_of r.0) r.1.op (tree_of r.1.arg) ≡ MoreTails before op t = sym (tails_of-push r.0 r.1) ∙ ap tails_of (sym r.2) ∙ q in
+            let a : tails_of r.0 ≡ before = cc in
+            let b : op ≡ r.1.op = cc in
+            let c : tree_of r.1.arg ≡ t = cc in
+            let d : record { op = op; arg = expr_from t } ≡ r.1 = ap₂ (λ o u. record { op = o; arg = u }) b (back t (out-Expr r.1.arg) (opened r.1.arg t c) ∙ roll-out-Expr r.1.arg) in
+            ap₂ (λ y z. y ++ z ∷ []) (back_tails before r.0 a) d ∙ sym r.2
       ]
 
   back_args : (args : Args) (rest : List Arg) → args_of rest ≡ args → args_back args ≡ rest
   back_args NoArgs rest q = elim (snoc_view rest) [ inl e ↦ sym e | inr r ↦ let p = sym (args_of-push r.0 r.1) ∙ ap args_of (sym r.2) ∙ q in absurd cc ]
   back_args (MoreArgs before o t) rest q =
       elim (snoc_view rest) [
-        inl e ↦ let p = ap args_of (sym e) ∙ q in absurd cc
-      | inr r ↦
-          let p : MoreArgs (args_of r.0) r.1.name (tree_of r.1.value) ≡ MoreArgs before o t = sym (args_of-push r.0 r.1) ∙ ap args_of (sym r.2) ∙ q in
-          let a : args_of r.0 ≡ before = cc in
-          let b : o ≡ r.1.name = cc in
-          let c : tree_of r.1.value ≡ t = cc in
-          let d : record { name = o; value = expr_from t } ≡ r.1 = ap₂ (λ n u. record { name = n; value = u }) b (back t (out-Expr r.1.value) (opened r.1.value t c) ∙ roll-out-Expr r.1.value) in
-          ap₂ (λ y z. y ++ z ∷ []) (back_args before r.0 a) d ∙ sym r.2
+        | inl e ↦ let p = ap args_of (sym e) ∙ q in absurd cc
+        | inr r ↦
+            let p : MoreArgs (args_of r.0) r.1.name (tree_of r.1.value) ≡ MoreArgs before o t = sym (args_of-push r.0 r.1) ∙ ap args_of (sym r.2) ∙ q in
+            let a : args_of r.0 ≡ before = cc in
+            let b : o ≡ r.1.name = cc in
+            let c : tree_of r.1.value ≡ t = cc in
+            let d : record { name = o; value = expr_from t } ≡ r.1 = ap₂ (λ n u. record { name = n; value = u }) b (back t (out-Expr r.1.value) (opened r.1.value t c) ∙ roll-out-Expr r.1.value) in
+            ap₂ (λ y z. y ++ z ∷ []) (back_args before r.0 a) d ∙ sym r.2
       ]
 
   back_first : (x : Item) (o : Option Expr) → first_of o ≡ x → first_back x ≡ o
@@ -194,23 +194,23 @@ mutual
   back_brackets NoBrackets rest q = elim (snoc_view rest) [ inl e ↦ sym e | inr r ↦ let p = sym (brackets_of-push r.0 r.1) ∙ ap brackets_of (sym r.2) ∙ q in absurd cc ]
   back_brackets (MoreBrackets before i j by args) rest q =
       elim (snoc_view rest) [
-        inl e ↦ let p = ap brackets_of (sym e) ∙ q in absurd cc
-      | inr r ↦
-          let c = out-Bracket r.1 in
-          let p : MoreBrackets (brackets_of r.0) (first_of c.first) (second_of c.second) (first_of c.third) (args_of c.args) ≡ MoreBrackets before i j by args =
+        | inl e ↦ let p = ap brackets_of (sym e) ∙ q in absurd cc
+        | inr r ↦
+            let c = out-Bracket r.1 in
+            let p : MoreBrackets (brackets_of r.0) (first_of c.first) (second_of c.second) (first_of c.third) (args_of c.args) ≡ MoreBrackets before i j by args =
             ap (λ b. MoreBrackets (brackets_of r.0) b.first b.second b.third b.args) (sym (bracket_opened r.1)) ∙ sym (brackets_of-push r.0 r.1) ∙ ap brackets_of (sym r.2) ∙ q in
-          let e0 : brackets_of r.0 ≡ before = cc in
-          let e1 : first_of c.first ≡ i = cc in
-          let e2 : second_of c.second ≡ j = cc in
-          let e3 : first_of c.third ≡ by = cc in
-          let e4 : args_of c.args ≡ args = cc in
-          let f1 = back_first i c.first e1 in
-          let f2 = back_second j (option_map out-Second c.second) (second_opened c.second ∙ e2) ∙ second_rolled c.second in
-          let f3 = back_first by c.third e3 in
-          let f4 = back_args args c.args e4 in
-          let d : roll-Bracket (record { first = first_back i; second = second_back j; third = first_back by; args = args_back args }) ≡ r.1 =
+            let e0 : brackets_of r.0 ≡ before = cc in
+            let e1 : first_of c.first ≡ i = cc in
+            let e2 : second_of c.second ≡ j = cc in
+            let e3 : first_of c.third ≡ by = cc in
+            let e4 : args_of c.args ≡ args = cc in
+            let f1 = back_first i c.first e1 in
+            let f2 = back_second j (option_map out-Second c.second) (second_opened c.second ∙ e2) ∙ second_rolled c.second in
+            let f3 = back_first by c.third e3 in
+            let f4 = back_args args c.args e4 in
+            let d : roll-Bracket (record { first = first_back i; second = second_back j; third = first_back by; args = args_back args }) ≡ r.1 =
             ap₂ (λ x y. roll-Bracket (record { first = x; second = y; third = first_back by; args = args_back args })) f1 f2 ∙ ap₂ (λ x y. roll-Bracket (record { first = c.first; second = c.second; third = x; args = y })) f3 f4 ∙ roll-out-Bracket r.1 in
-          ap₂ (λ y z. y ++ z ∷ []) (back_brackets before r.0 e0) d ∙ sym r.2
+            ap₂ (λ y z. y ++ z ∷ []) (back_brackets before r.0 e0) d ∙ sym r.2
       ]
 
 -- the view is undone

@@ -26,16 +26,19 @@ pub trait Number: Word {
 
 impl Word for u8 {
     ghost cell = { lgl_cell };
+
     ghost fine = { IsLglWord };
 }
 
 impl Word for i64 {
     ghost cell = { int_cell };
+
     ghost fine = { λ n. Unit {0} };
 }
 
 impl Word for Option<Text> {
     ghost cell = { text_cell };
+
     ghost fine = { λ t. Unit {0} };
 }
 

@@ -1,4 +1,7 @@
 pub mod Bytes
+pub mod Csv
+pub mod CsvCells
+pub mod CsvNames
 pub mod First
 pub mod FirstFault
 pub mod FirstPath
