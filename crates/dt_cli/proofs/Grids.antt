@@ -17,7 +17,7 @@ use Rattle.run_model.specs.IntegerFile.{field_cell, record_cells}
 use Rattle.dt_cli.specs.Grid.{rows_in, HaveLength, Gains, has_cells, cell_lists}
 
 -- the row at a place
-abbrev row_in : List (List Cell) → ℕ → List Cell
+abbrev pub row_in : List (List Cell) → ℕ → List Cell
 row_in lists r = map (λ cells. cell_at cells r) lists
 
 -- an earlier row stays

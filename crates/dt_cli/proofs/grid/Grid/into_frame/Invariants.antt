@@ -1,4 +1,4 @@
-use Rattle.std.proofs.Common.{◌≡◌, ◌<◌, map, length}
+use Rattle.std.proofs.Common.{◌≡◌, ◌<◌, ◌++◌, map, length, All}
 use Rattle.na_vector.specs.Frame.{vectors_of}
 use Rattle.na_vector.specs.Words.{int_vector}
 use Rattle.dt_cli.proofs.grid.Grid.into_frame.Given as goal
@@ -7,5 +7,6 @@ abbrev pub invariant-loop-words : goal.invariant-loop-words
 invariant-loop-words l =
     (goal.iterator-loop-words).can_next l.words-iterator ×
     (goal.iterator-loop-words).is_finite l.words-iterator ×
-    (vectors_of l.frame.columns ≡ map (λ v. int_vector v.items) l.yielded) ×
-    (0 < length l.yielded → l.frame.rows ≡ length l.fn.self.rows)
+    (vectors_of l.frame.columns ++ map (λ v. int_vector v.items) l.words-iterator.rest ≡ map (λ v. int_vector v.items) l.initial.words-iterator.rest) ×
+    All (λ v. length v.items ≡ length l.fn.self.rows) l.words-iterator.rest ×
+    (0 < length l.frame.columns → l.frame.rows ≡ length l.fn.self.rows)
