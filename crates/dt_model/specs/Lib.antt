@@ -1,6 +1,5 @@
 pub mod Spelling
 pub mod Table
 pub mod Vector
-pub mod Spelling
 pub mod Coercion
 pub mod Operations
