@@ -1,2 +1,4 @@
 pub mod Answers
 pub mod Words
+pub mod Shown
+pub mod Families
