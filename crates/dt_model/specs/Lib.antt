@@ -1,6 +1,3 @@
-pub mod Spelling
-pub mod Table
-pub mod Vector
 pub mod Coercion
 pub mod Operations
 pub mod Spelling

@@ -1,7 +1,7 @@
-pub mod Fill
 pub mod Answered
-pub mod Numbers
+pub mod Fill
 pub mod Lists
-pub mod Warnings
 pub mod Mixed
+pub mod Numbers
 pub mod Short
+pub mod Warnings
