@@ -1,0 +1,5 @@
+pub mod FieldFacts
+pub mod LeftFacts
+pub mod OneRecord
+pub mod RowFacts
+pub mod TextFacts

@@ -1,0 +1,6 @@
+//! The program dtq.
+#![tactic(auto)]
+
+mod records;
+
+fn main() {}
