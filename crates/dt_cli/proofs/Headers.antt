@@ -26,7 +26,7 @@ not_text bs n =
 
 -- bytes that are no text are no name
 pub no_text_is_bad : (bs : List ℕ) → (IsUtf8 bs → ⊥) → is_bad_name bs ≡ true
-no_text_is_bad bs n = rw not_text bs n (or_true (length bs == 0))
+no_text_is_bad bs n = rw (not_text bs n) (or_true (length bs == 0))
 
 -- few good names, each once, are a good header
 pub good_header : (names : List (List ℕ)) → length names ≤ 4096 → list_any is_bad_name names ≡ false → has_repeat names ≡ false → is_bad_header names ≡ false

@@ -5,7 +5,7 @@
 --   IsHaltAt h line f           it halts with this stop, or wants memory
 --   IsHaltFor fail h            it halts with what this refusal of a file stops with
 --   FileHalts o h               it halts with the stop in place of a file's text
---   PutAs done old now piece rose s    the piece was put, or why not
+--   PutAs wanted old now piece rose s    the piece was put, or why not
 use Rattle.std.specs.Prelude.{◌≡◌, ℕ, List, Option, None, Some, Result, Ok, Err}
 use Rattle.std.specs.FinMap as finite
 use Rattle.dt_base.specs.declared.fault.Code.TheVariants.{E15, E16}
@@ -56,12 +56,12 @@ FileHalts o (halt.Stop line f) = (o ≡ Err (stop line f)) × (f.code ≡ E15 �
 FileHalts o halt.ReadFault = ⊥
 FileHalts o (halt.NoMemory e) = Unit {0}
 
--- With the status `done` the piece was put. A first part was where the sink failed, and nothing
+-- With the status that is wanted the piece was put. A first part was where the sink failed, and nothing
 -- where memory is wanting.
 abbrev pub PutAs : Status → Option (List ℕ) → Option (List ℕ) → List ℕ → Type 0 → Status → Type 0
-PutAs done old now piece rose Done = (done ≡ Done) × (now ≡ appended old piece)
-PutAs done old now piece rose Stopped = (done ≡ Stopped) × (now ≡ appended old piece)
-PutAs done old now piece rose Usage = (done ≡ Usage) × (now ≡ appended old piece)
-PutAs done old now piece rose ReadFault = ⊥
-PutAs done old now piece rose WriteFault = AppendedPart old now piece × rose
-PutAs done old now piece rose NoMemory = now ≡ old
+PutAs wanted old now piece rose Done = (wanted ≡ Done) × (now ≡ appended old piece)
+PutAs wanted old now piece rose Stopped = (wanted ≡ Stopped) × (now ≡ appended old piece)
+PutAs wanted old now piece rose Usage = (wanted ≡ Usage) × (now ≡ appended old piece)
+PutAs wanted old now piece rose ReadFault = ⊥
+PutAs wanted old now piece rose WriteFault = AppendedPart old now piece × rose
+PutAs wanted old now piece rose NoMemory = now ≡ old

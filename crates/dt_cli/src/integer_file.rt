@@ -45,7 +45,11 @@ fn push_record(grid: Grid, row: &ByteRecord, number: u64) -> Result<Grid, FileFa
 
 /// Adds the rows of all records that a reader has left, the first of which has number 2. The first
 /// record at fault decides.
-fn read_rows(reader: &mut Reader<&[u8]>, row: &mut ByteRecord, empty: Grid) -> Result<Grid, FileFail>
+fn read_rows(
+    reader: &mut Reader<&[u8]>,
+    row: &mut ByteRecord,
+    empty: Grid,
+) -> Result<Grid, FileFail>
     requires reading { IsReading reader.old }
     requires empty { empty.rows ≡ [] }
     ensures width { IfOk result (λ g. g.width ≡ empty.width) }
@@ -71,7 +75,11 @@ fn read_rows(reader: &mut Reader<&[u8]>, row: &mut ByteRecord, empty: Grid) -> R
 const LAST_NUMBER: u64 = MAX_ROWS as u64 + 1;
 
 /// The names and the columns of the records whose header was taken.
-fn read_table(alloc: Global, reader: &mut Reader<&[u8]>, row: &mut ByteRecord) -> Result<IntegerFile, FileFail>
+fn read_table(
+    alloc: Global,
+    reader: &mut Reader<&[u8]>,
+    row: &mut ByteRecord,
+) -> Result<IntegerFile, FileFail>
     requires { IsReading reader.old }
     ensures columns { IfOk result (λ f. length f.names.items ≡ length f.frame.columns) }
     ensures table { IfOk result (λ f. printed_result (table_of_records (fields_of row.old ∷ records_left reader.old)) ≡ Ok (printed_table (heads_of f.names.items (vectors_of f.frame.columns)) (rows_of f.frame.rows (vectors_of f.frame.columns)))) }
@@ -104,7 +112,11 @@ fn read_integers(alloc: Global, bytes: &[u8]) -> Result<IntegerFile, FileFail>
 /// The printed text of the table in a file of integers.
 ///
 /// The file is refused where it is none, and the first record at fault decides.
-pub fn file_text<L: Ledger>(alloc: Global, bytes: &[u8], steps: &mut Steps<L>) -> Result<Vec<u8>, FileFail>
+pub fn file_text<L: Ledger>(
+    alloc: Global,
+    bytes: &[u8],
+    steps: &mut Steps<L>,
+) -> Result<Vec<u8>, FileFail>
     ensures text { IfOk result (λ v. printed_file bytes.now ≡ Ok v.items) }
     ensures refused { IfErr result (FileStops (printed_file bytes.now)) }
 {

@@ -2,6 +2,8 @@
 //! table.
 #![tactic(auto)]
 
+ghost use Rattle.std.specs.Prelude.{◌≡◌, ◌<◌};
+
 mod fail;
 mod grid;
 mod header;
@@ -51,4 +53,5 @@ fn main(rt: HostRuntime) -> ExitCode {
     ExitCode::from(run_real::<Brand>(&rt, &words, Blank::new(1)).number())
 }
 
-ghost use Rattle.std.specs.Prelude.{◌≡◌, ◌<◌};
+#[cfg(test)]
+mod tests;

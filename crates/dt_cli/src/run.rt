@@ -87,7 +87,13 @@ fn file_halt(alloc: Global, fail: FileFail) -> Halt
 }
 
 /// The bytes of a file that this line reads.
-fn read_file<F: Files>(alloc: Global, files: &mut F, name: &str, limit: u64, line: u32) -> Result<Vec<u8>, Halt>
+fn read_file<F: Files>(
+    alloc: Global,
+    files: &mut F,
+    name: &str,
+    limit: u64,
+    line: u32,
+) -> Result<Vec<u8>, Halt>
     ensures held { F.held files.new ≡ F.held files.old }
     ensures bytes { IfOk result (λ v. Gives (F.held files.old) (λ look. path.read_file look limit line name.now) v.items) }
     ensures halts { IfErr result (Halts (F.held files.old) (λ look. path.read_file look limit line name.now) (Rose (F.misses files.old) (F.misses files.new)) (Rose (F.longs files.old) (F.longs files.new)) (Rose (F.read_faults files.old) (F.read_faults files.new))) }
@@ -114,7 +120,12 @@ fn bytes_text<L: Ledger>(alloc: Global, bytes: &[u8], steps: &mut Steps<L>) -> R
 }
 
 /// What the table of the file of this name prints.
-fn named_text<F: Files, L: Ledger>(alloc: Global, name: &str, files: &mut F, steps: &mut Steps<L>) -> Result<Vec<u8>, Halt>
+fn named_text<F: Files, L: Ledger>(
+    alloc: Global,
+    name: &str,
+    files: &mut F,
+    steps: &mut Steps<L>,
+) -> Result<Vec<u8>, Halt>
     ensures held { F.held files.new ≡ F.held files.old }
     ensures text { IfOk result (λ v. Gives (F.held files.old) (λ look. then_do (path.read_file look 67108864 1 name.now) printed_file) v.items) }
     ensures halts { IfErr result (Halts (F.held files.old) (λ look. then_do (path.read_file look 67108864 1 name.now) printed_file) (Rose (F.misses files.old) (F.misses files.new)) (Rose (F.longs files.old) (F.longs files.new)) (Rose (F.read_faults files.old) (F.read_faults files.new))) }
@@ -128,7 +139,12 @@ fn named_text<F: Files, L: Ledger>(alloc: Global, name: &str, files: &mut F, ste
 }
 
 /// What the script in the file of this name prints.
-fn script_output<F: Files, L: Ledger>(alloc: Global, name: &str, files: &mut F, steps: &mut Steps<L>) -> Result<Vec<u8>, Halt>
+fn script_output<F: Files, L: Ledger>(
+    alloc: Global,
+    name: &str,
+    files: &mut F,
+    steps: &mut Steps<L>,
+) -> Result<Vec<u8>, Halt>
     ensures held { F.held files.new ≡ F.held files.old }
     ensures text { IfOk result (λ v. Gives (F.held files.old) (λ look. script_run look name.now) v.items) }
     ensures halts { IfErr result (Halts (F.held files.old) (λ look. script_run look name.now) (Rose (F.misses files.old) (F.misses files.new)) (Rose (F.longs files.old) (F.longs files.new)) (Rose (F.read_faults files.old) (F.read_faults files.new))) }
@@ -181,7 +197,14 @@ fn say_usage<E: Sink>(err: &mut E) -> Status
 }
 
 /// Runs the script in the file of this name.
-fn run_script<F: Files, O: Sink, E: Sink, L: Ledger>(alloc: Global, name: &str, files: &mut F, out: &mut O, err: &mut E, steps: &mut Steps<L>) -> Status
+fn run_script<F: Files, O: Sink, E: Sink, L: Ledger>(
+    alloc: Global,
+    name: &str,
+    files: &mut F,
+    out: &mut O,
+    err: &mut E,
+    steps: &mut Steps<L>,
+) -> Status
     ensures ends { Planned (F.held files.old) (λ look. Answers (script_end (script_run look name.now)) (world (F.held files.old) (O.bytes out.old) (E.bytes err.old)) (world (F.held files.new) (O.bytes out.new) (E.bytes err.new)) result) }
     ensures words { NeedsScript result true }
     ensures read { result ≡ Status.ReadFault → Rose (F.read_faults files.old) (F.read_faults files.new) }
@@ -226,7 +249,14 @@ fn script_word(words: &[String]) -> Option<&str>
 /// `NoMemory` where memory was wanting.
 ///
 /// dtq's own rule, docs/LANGUAGE.md, section What runs today.
-pub fn run<F: Files, O: Sink, E: Sink, L: Ledger>(alloc: Global, words: &[String], files: &mut F, out: &mut O, err: &mut E, steps: &mut Steps<L>) -> Status
+pub fn run<F: Files, O: Sink, E: Sink, L: Ledger>(
+    alloc: Global,
+    words: &[String],
+    files: &mut F,
+    out: &mut O,
+    err: &mut E,
+    steps: &mut Steps<L>,
+) -> Status
     ensures headline { Headline (F.held files.old) (map string_bytes words.now) (world (F.held files.old) (O.bytes out.old) (E.bytes err.old)) (world (F.held files.new) (O.bytes out.new) (E.bytes err.new)) result }
     ensures words { IsByWords (map string_bytes words.now) result }
     ensures read { result ≡ Status.ReadFault → Rose (F.read_faults files.old) (F.read_faults files.new) }

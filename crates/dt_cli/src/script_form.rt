@@ -48,12 +48,16 @@ fn leading_file_bytes(bytes: &[u8]) -> &[u8]
 fn from_place(bytes: &[u8], place: usize) -> &[u8]
     ensures { result.now ≡ drop place bytes.entry.now }
 {
-    if place < bytes.len() { &bytes[place..] } else { &[] }
+    if place < bytes.len() {
+        &bytes[place..]
+    } else {
+        &[]
+    }
 }
 
 /// The bytes of a file's name that stand behind the words after a script's name.
 fn file_behind<'a>(bytes: &'a [u8], name: &[u8]) -> &'a [u8]
-    requires { name.now ≡ leading_name bytes.entry.now }
+    requires { name.now ≡ leading_name bytes.now }
     ensures { result.now ≡ leading_file bytes.entry.now }
 {
     leading_file_bytes(from_place(bytes, name.len() + READING_WORDS.len()))

@@ -19,6 +19,6 @@ invariant_of-result c =
 pub returns-clause-rows : goal.returns-clause-rows
 returns-clause-rows c =
     let same : length (record_cells (fields_of c.args.row.now)) ≡ length (cell_lists c.self.inside.columns.items) =
-      length-map (fields_of c.args.row.now) _ ∙ c.requires.width ∙ sym (ap (λ g. g.width) c.self.view_is) ∙ sym (length-map c.self.inside.columns.items _) in
+    length-map (fields_of c.args.row.now) _ ∙ c.requires.width ∙ sym (ap (λ g. g.width) c.self.view_is) ∙ sym (length-map c.self.inside.columns.items _) in
     rows_gain c.self.inside.rows (cell_lists c.self.inside.columns.items) (cell_lists c.push_cells.new.columns.items) (record_cells (fields_of c.args.row.now)) c.self.invariant c.in_ok-push_cells.ensures.gains same
     ∙ ap (λ g. g.rows ++ record_cells (fields_of c.args.row.now) ∷ []) c.self.view_is
