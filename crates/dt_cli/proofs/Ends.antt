@@ -1,14 +1,13 @@
 -- How a run ends, by what was put.
-use Rattle.std.proofs.Common.{◌≡◌, ℕ, List, [], ◌∷◌, ◌++◌, Option, Some, None, Result, Ok, Err, take, refl, sym, ap, subst, ◌∙◌}
-use Rattle.std.specs.FinMap as finite
+use Rattle.std.proofs.Common.{◌≡◌, ℕ, List, [], Option, Some, None, Result, refl, sym, ap, subst, ◌∙◌}
 use Rattle.std.proofs.lemmas.List.{append-nil}
 use Rattle.dt_base.specs.declared.fault.Fault.{Fault}
 use Rattle.dt_world.specs.Told.{FileMap, appended, AppendedPart}
-use Rattle.run_model.specs.FirstPath.{Look, Stop, stop}
+use Rattle.run_model.specs.FirstPath.{Look, Stop}
 use Rattle.run_model.specs.Messages.{printed_fault}
 use Rattle.dt_cli.specs.declared.status.Status.{Status}
 use Rattle.dt_cli.specs.declared.status.Status.TheVariants.{Done, Stopped, Usage, ReadFault, WriteFault, NoMemory}
-use Rattle.dt_cli.specs.Run.{World, world, Ended, script_end, after, Parted, Answers, Planned}
+use Rattle.dt_cli.specs.Run.{world, script_end, Answers, Planned}
 use Rattle.dt_cli.specs.declared.run.Halt.{Halt}
 use Rattle.dt_cli.specs.declared.run.Halt.TheVariants as halt
 use Rattle.dt_cli.specs.Steps.{Stops, Halts, PutAs}

@@ -1,12 +1,12 @@
 -- The names of a script.
-use Rattle.std.proofs.Common.{◌≡◌, ◌<◌, ℕ, zero, suc, List, [], ◌∷◌, Bor, Option, Some, None, Result, Ok, Err, Bool, true, false, cond, refl, sym, ap, ◌∙◌, arith, lit<, get_or, subst, drop, length, ◌+◌}
+use Rattle.std.proofs.Common.{◌≡◌, ◌<◌, ℕ, zero, suc, List, [], ◌∷◌, Bor, Option, Some, None, Result, Ok, Err, true, false, cond, refl, sym, ap, ◌∙◌, arith, lit<, subst, drop, length, ◌+◌}
 use Rattle.std.specs.Prelude.{option_map, MatchResult, take_while}
 use Rattle.std.specs.Result.{result_ok}
 use Rattle.std.specs.Str.{IsUtf8, IsAscii}
 use Rattle.std.proofs.lemmas.Str.{IsUtf8-from_ascii}
 use Rattle.std.proofs.lemmas.Bool.Decides.{nat_tests}
 use Rattle.std.proofs.lemmas.List.Sums.{take_while-cons}
-use Rattle.run_model.specs.FirstPath.{is_small_letter, is_file_byte, leading_name, leading_file, reading_words, is_script, file_named}
+use Rattle.run_model.specs.FirstPath.{is_file_byte, leading_name, leading_file, reading_words, is_script, file_named}
 
 file_byte_small : (b : ℕ) → is_file_byte b ≡ true → b < 128
 file_byte_small b h = grind (arith, nat_tests)

@@ -1,11 +1,11 @@
 -- A frame that is made of columns of words, one after another.
-use Rattle.std.proofs.Common.{◌≡◌, ◌+◌, ◌<◌, ◌≤◌, ◌++◌, ℕ, ℤ, suc, List, [], ◌∷◌, zero, map, length, get_or, All, Vec, refl, sym, ap, subst, ◌∙◌, arith, append_assoc, Global}
+use Rattle.std.proofs.Common.{◌≡◌, ◌+◌, ◌<◌, ◌++◌, ℕ, ℤ, suc, List, [], ◌∷◌, zero, map, length, get_or, All, Vec, refl, sym, ap, subst, ◌∙◌, arith, append_assoc, Global}
 use Rattle.std.proofs.lemmas.List.{length-map, get_or-map, append-nil, map-append}
 use Rattle.std.specs.List.{range_with_len}
 use Rattle.dt_base.specs.declared.cell.ColType.TheVariants as ty
 use Rattle.dt_base.specs.declared.cell.Cell.{Cell}
 use Rattle.dt_model.specs.Vector.{Vector, cell_at}
-use Rattle.dt_model.specs.Table.{ColumnHead, rows_of, row_at, heads_of}
+use Rattle.dt_model.specs.Table.{rows_of, row_at, heads_of}
 use Rattle.na_vector.specs.Column.{Seen}
 use Rattle.na_vector.specs.Frame.{FrameSeen, vectors_of}
 use Rattle.na_vector.specs.Words.{int_cell, int_vector}

@@ -1,10 +1,10 @@
 -- Lists of cells side by side, when each gains a cell.
-use Rattle.std.proofs.Common.{◌≡◌, ◌+◌, ◌<◌, ◌≤◌, ◌++◌, ℕ, suc, List, [], ◌∷◌, map, take, length, get_or, set, Option, Some, None, true, false, ◌&&◌, All, refl, sym, ap, subst, ◌∙◌, arith, zero-add, length-append, ◌⊎◌, inl, inr}
-use Rattle.std.specs.Prelude.{option_map, Vec, ℤ}
+use Rattle.std.proofs.Common.{◌≡◌, ◌+◌, ◌<◌, ◌≤◌, ◌++◌, ℕ, List, [], ◌∷◌, map, take, length, get_or, set, Some, true, refl, sym, ap, subst, ◌∙◌, arith, zero-add, length-append, ◌⊎◌, inl, inr}
+use Rattle.std.specs.Prelude.{Vec, ℤ}
 use Rattle.std.specs.Global.{Global}
 use Rattle.std.specs.Option.{is_some, unwrap_or}
-use Rattle.std.specs.List.{range_with_len, list_all}
-use Rattle.std.proofs.lemmas.List.{ext_get_or, length-map, get_or-map, get_or_append_left, get_or_default, length-set, get_or-set_same, get_or-set_other, take_all, map-set, map-append}
+use Rattle.std.specs.List.{list_all}
+use Rattle.std.proofs.lemmas.List.{ext_get_or, length-map, get_or-map, get_or_append_left, length-set, get_or-set_same, get_or-set_other, take_all, map-set, map-append}
 use Rattle.std.proofs.Math.Seq.{get_or-append_seam}
 use Rattle.std.proofs.lemmas.List.FromFn.{map-range_with_len_more, get_or-map-range_with_len, length-map-range_with_len}
 use Rattle.std.proofs.lemmas.List.Folds.{list_all_more}

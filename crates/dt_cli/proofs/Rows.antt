@@ -1,10 +1,9 @@
 -- Reading the records behind a header, one after another.
-use Rattle.std.proofs.Common.{◌≡◌, ◌+◌, ◌<◌, ◌≤◌, ◌++◌, ℕ, List, [], ◌∷◌, map, length, Option, Some, None, true, false, refl, sym, ap, subst, ◌∙◌, arith, append_assoc, length-append, nat_lt}
+use Rattle.std.proofs.Common.{◌≡◌, ◌+◌, ◌<◌, ◌++◌, ℕ, List, [], ◌∷◌, map, length, Some, None, refl, sym, ap, ◌∙◌, arith, append_assoc, length-append}
 use Rattle.std.specs.Option.{option_or}
 use Rattle.std.proofs.lemmas.List.{append-nil}
 use Rattle.std.proofs.lemmas.Bool.{lt-ltb}
 use Rattle.dt_base.specs.declared.fault.Fault.{Fault}
-use Rattle.dt_base.specs.declared.cell.Cell.{Cell}
 use Rattle.run_model.specs.IntegerFile.{record_fault, first_fault, record_cells, bad_file, other_length}
 use Rattle.dt_cli.specs.declared.fail.FileFail.{FileFail}
 use Rattle.dt_cli.specs.declared.fail.FileFail.TheVariants.{BadFile, OtherLength, NoMemory}

@@ -1,5 +1,5 @@
 -- The table of a file without fault.
-use Rattle.std.proofs.Common.{◌≡◌, ◌<◌, ℕ, List, [], ◌∷◌, map, length, Option, Some, None, Result, Ok, Err, true, false, refl, sym, ap, ◌∙◌, subst, arith}
+use Rattle.std.proofs.Common.{◌≡◌, ◌<◌, ℕ, List, [], ◌∷◌, map, length, None, Ok, false, sym, ap, ◌∙◌, arith}
 use Rattle.dt_base.specs.declared.cell.Cell.{Cell}
 use Rattle.dt_model.specs.Vector.{Vector}
 use Rattle.dt_model.specs.Table.{ColumnHead, heads_of, rows_of}

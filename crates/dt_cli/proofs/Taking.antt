@@ -1,12 +1,12 @@
 -- A read of one record takes the first of the records that a reader has left.
-use Rattle.std.proofs.Common.{◌≡◌, ◌<◌, ◌≤◌, ◌+◌, ◌==◌, ◌&&◌, ℕ, zero, suc, List, [], ◌∷◌, ◌++◌, Bool, true, false, cond, Option, None, Some, length, refl, sym, ap, ◌∙◌, subst, arith, true≢false, if◌then◌else◌, inl, not}
+use Rattle.std.proofs.Common.{◌≡◌, ◌<◌, ◌≤◌, ◌+◌, ◌==◌, ◌&&◌, ℕ, zero, suc, List, [], ◌∷◌, ◌++◌, Bool, true, false, Option, None, Some, length, refl, sym, ap, ◌∙◌, subst, arith, true≢false, if◌then◌else◌, inl}
 use Rattle.std.specs.Option.{option_map_or}
 use Rattle.csv.specs.Machine.{Read, next_record, ends_at_end, is_end, step, in_field, start_field, start_record, after_end, ends_with, is_byte, fields_after, field_after}
-use Rattle.csv.specs.Reading.{records_from, records_next, default_config, source_of, pending_of, buffered_of, unread_of, Ready, NextIs, ReadsNext, ReadRecord}
+use Rattle.csv.specs.Reading.{records_from, records_next, default_config, source_of, pending_of, NextIs, ReadsNext, ReadRecord}
 use Rattle.csv.specs.declared.reader.Reader.{Reader}
 use Rattle.std.specs.Borrow.{Bor}
 use Rattle.std.specs.Option.{is_some, unwrap_or}
-use Rattle.dt_cli.specs.Records.{text_left, records_left, IsReading, taken}
+use Rattle.dt_cli.specs.Records.{records_left, IsReading, taken}
 use Rattle.csv.specs.declared.parser.Config.{Config}
 use Rattle.csv.specs.declared.parser.Terminator.{Terminator}
 use Rattle.csv.specs.declared.parser.Terminator.TheVariants as term

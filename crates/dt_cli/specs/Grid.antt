@@ -11,7 +11,6 @@ use Rattle.std.specs.Global.{Global}
 use Rattle.std.specs.Option.{is_some}
 use Rattle.std.specs.List.{range_with_len, list_all}
 use Rattle.dt_base.specs.declared.cell.Cell.{Cell}
-use Rattle.dt_base.specs.declared.cell.Cell.TheVariants.{Na}
 use Rattle.dt_base.specs.declared.cell.ColType.TheVariants as ty
 use Rattle.dt_model.specs.Vector.{Vector, cell_at}
 use Rattle.na_vector.specs.Words.{int_cell}

@@ -11,13 +11,13 @@
 --   Headline held words w v s   the theorem on `run`
 --   IsByWords words s       usage is told exactly by the words
 --   StopCause               where the files tell nothing, what a stop tells
-use Rattle.std.specs.Prelude.{◌≡◌, ◌==◌, not, ℕ, Bool, true, false, if◌then◌else◌, List, [], ◌∷◌, ◌++◌, Option, None, Some, Result, Ok, Err, take, codes}
+use Rattle.std.specs.Prelude.{◌≡◌, ◌==◌, not, ℕ, Bool, true, false, if◌then◌else◌, List, [], ◌∷◌, Option, None, Some, Result, Ok, Err, codes}
 use Rattle.std.specs.Option.{is_some}
 use Rattle.std.specs.FinMap as finite
 use Rattle.dt_base.specs.declared.fault.Code.TheVariants.{E15, E16}
 use Rattle.dt_base.specs.declared.fault.Fault.{Fault}
 use Rattle.dt_world.specs.Told.{FileMap, appended, AppendedPart}
-use Rattle.run_model.specs.FirstPath.{Look, Stop, stop, script_run}
+use Rattle.run_model.specs.FirstPath.{Look, Stop, script_run}
 use Rattle.run_model.specs.Messages.{printed_fault}
 use Rattle.dt_cli.specs.declared.status.Status.{Status}
 use Rattle.dt_cli.specs.declared.status.Status.TheVariants.{Done, Stopped, Usage, ReadFault, WriteFault, NoMemory}

@@ -13,6 +13,7 @@ use std::test::Fail;
 const READ_AND_PRINT: &str = "x <- fread(\"f.csv\")\nprint(x)\n";
 
 /// What a run over memory gave.
+#[derive(Drop)]
 struct Given {
     status: Status,
     out: MemSink,

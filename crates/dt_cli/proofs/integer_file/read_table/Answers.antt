@@ -1,5 +1,5 @@
 -- The header and the records are good.
-use Rattle.std.proofs.Common.{rules, ◌≡◌, ◌∙◌, sym, ap, length}
+use Rattle.std.proofs.Common.{rules, ◌≡◌, length}
 use Rattle.csv.specs.Records.{fields_of}
 use Rattle.na_vector.specs.Frame.{vectors_of}
 use Rattle.dt_cli.specs.Records.{records_left}

@@ -1,7 +1,5 @@
 -- A record was read, or there was none; or the reader gave up.
-use Rattle.std.proofs.Common.{IfOk, sym, subst, true, ◌≡◌}
 use Rattle.csv.specs.Records.{fields_of}
-use Rattle.dt_cli.specs.Records.{records_left, taken, IsReading}
 use Rattle.dt_cli.proofs.Taking.{record_read, still_reading}
 use Rattle.dt_cli.proofs.records.take_record.Goals as goal
 use Rattle.dt_cli.proofs.records.take_record.Goals.{in-Ok, in-Err}

@@ -1,5 +1,5 @@
 -- A script that stopped told its fault.
-use Rattle.std.proofs.Common.{rules, ◌≡◌, sym, subst}
+use Rattle.std.proofs.Common.{rules, ◌≡◌}
 use Rattle.run_model.specs.FirstPath.{script_run}
 use Rattle.dt_cli.specs.declared.run.Halt.TheVariants as halt
 use Rattle.dt_cli.proofs.Ends.{halt_ends}

@@ -1,5 +1,5 @@
 -- The whole has the form.
-use Rattle.std.proofs.Common.{rules, ◌≡◌, ◌∙◌, sym, true}
+use Rattle.std.proofs.Common.{rules, ◌≡◌, true}
 use Rattle.run_model.specs.FirstPath.{is_script}
 use Rattle.dt_cli.proofs.Forms.{named}
 use Rattle.dt_cli.proofs.script_form.file_named.Goals as goal

@@ -1,13 +1,13 @@
 -- Column after column becomes one of the frame.
-use Rattle.std.proofs.Common.{rules, ◌≡◌, ◌<◌, ◌≤◌, ◌∙◌, ◌+◌, ◌∷◌, sym, ap, subst, length, arith, map, List, vec_len}
+use Rattle.std.proofs.Common.{rules, ◌≡◌, ◌∙◌, sym, ap, length, arith}
 use Rattle.std.proofs.lemmas.List.{length-map}
 use Rattle.std.proofs.lemmas.List.FromFn.{length-map-range_with_len}
 use Rattle.std.specs.Vec.Iter.{into_iter_items, into_iter_len}
-use Rattle.na_vector.specs.Words.{int_cell, int_vector}
+use Rattle.na_vector.specs.Words.{int_cell}
 use Rattle.na_vector.specs.Frame.{vectors_of}
-use Rattle.dt_cli.specs.Grid.{cell_lists, HaveLength, rows_in}
+use Rattle.dt_cli.specs.Grid.{cell_lists}
 use Rattle.dt_cli.proofs.Grids.{row_in}
-use Rattle.dt_cli.proofs.Framings.{Words, word_vectors, Framing, framing_first, framing_long, framing_next, framing_end, framed_rows, framed_ints}
+use Rattle.dt_cli.proofs.Framings.{word_vectors, framing_first, framing_long, framing_next, framing_end, framed_rows, framed_ints}
 use Rattle.dt_cli.proofs.grid.Grid.into_frame.Goals as goal
 
 pub loop-words-init : goal.loop-words-init

@@ -1,10 +1,10 @@
 -- The rows are one more.
-use Rattle.std.proofs.Common.{rules, ◌≡◌, ◌+◌, ◌∙◌, sym, ap, length, arith, ◌∷◌, [], ◌++◌}
+use Rattle.std.proofs.Common.{◌≡◌, ◌∙◌, sym, ap, length, arith, ◌∷◌, [], ◌++◌}
 use Rattle.std.proofs.lemmas.List.{length-map}
 use Rattle.std.proofs.lemmas.List.FromFn.{length-map-range_with_len}
 use Rattle.csv.specs.Records.{fields_of}
 use Rattle.run_model.specs.IntegerFile.{record_cells}
-use Rattle.dt_cli.specs.Grid.{cell_lists, rows_in}
+use Rattle.dt_cli.specs.Grid.{cell_lists}
 use Rattle.dt_cli.proofs.Grids.{row_in, rows_gain, length_gain}
 use Rattle.dt_cli.proofs.grid.Grid.push_row.Goals as goal
 
