@@ -3,6 +3,7 @@ use dt_base::Text;
 use dt_tree::{Arg, Expr};
 use func_table::{Formal, Func};
 use std::alloc::{AllocError, Global};
+use std::process::Abort;
 use std::test::Fail;
 
 /// Arguments with these names; an empty name stands for none.
@@ -31,37 +32,41 @@ fn fault_of(alloc: Global, f: Func, names: &[&str]) -> Result<Text, AllocError> 
     }
 }
 
+/// The call of this function with arguments of these names has this name at fault.
+fn tells<R: Abort>(rt: &R, alloc: Global, f: Func, names: &[&str], what: &str) -> Result<(), Fail> {
+    assert_eq!(rt; fault_of(alloc, f, names)?.as_str(), what);
+    Ok(())
+}
+
 #[test]
-fn bindings(rt: HostRuntime) -> Result<(), Fail> {
+fn bound_to_formals(rt: HostRuntime) -> Result<(), Fail> {
     let alloc = rt.alloc();
-    let cases: [(Func, &[&str], &str); 14] = [
-        (Func::Fwrite, &["", ""], ""),
-        (Func::Fwrite, &["file", ""], ""),
-        (Func::Fwrite, &["file", "table"], ""),
-        (Func::Fwrite, &["", "x", "y"], "x"),
-        (Func::Fwrite, &["file", "file"], "file"),
-        (Func::Fwrite, &[""], "file"),
-        (Func::Fwrite, &["file"], "table"),
-        (Func::Fwrite, &["", "", ""], "fwrite"),
-        (Func::Print, &[], "print"),
-        (Func::Print, &["x"], "x"),
-        (Func::Print, &["", ""], "print"),
-        (Func::DataTable, &[], "data.table"),
-        (Func::DataTable, &["a", "a"], ""),
-        (Func::Fread, &["", "sep"], "sep"),
-    ];
-    for (f, names, what) in cases.as_slice() {
-        assert_eq!(rt; fault_of(alloc, *f, names)?.as_str(), *what);
-    }
-    let both = args(alloc, &["file", ""])?;
+    tells(&rt, alloc, Func::Fwrite, &["", ""], "")?;
+    tells(&rt, alloc, Func::Fwrite, &["file", ""], "")?;
+    tells(&rt, alloc, Func::Fwrite, &["file", "table"], "")?;
+    tells(&rt, alloc, Func::Fwrite, &["", "x", "y"], "x")?;
+    tells(&rt, alloc, Func::Fwrite, &["file", "file"], "file")?;
+    tells(&rt, alloc, Func::Fwrite, &[""], "file")?;
+    tells(&rt, alloc, Func::Fwrite, &["file"], "table")?;
+    tells(&rt, alloc, Func::Fwrite, &["", "", ""], "fwrite")
+}
+
+#[test]
+fn bound_as_columns_or_alone(rt: HostRuntime) -> Result<(), Fail> {
+    let alloc = rt.alloc();
+    tells(&rt, alloc, Func::Print, &[], "print")?;
+    tells(&rt, alloc, Func::Print, &["x"], "x")?;
+    tells(&rt, alloc, Func::Print, &["", ""], "print")?;
+    tells(&rt, alloc, Func::DataTable, &[], "data.table")?;
+    tells(&rt, alloc, Func::DataTable, &["a", "a"], "")?;
+    tells(&rt, alloc, Func::Fread, &["", "sep"], "sep")
+}
+
+#[test]
+fn arguments_by_place_and_name(rt: HostRuntime) -> Result<(), Fail> {
+    let both = args(rt.alloc(), &["file", ""])?;
+    let before = next(both.as_slice(), 0, Formal::Table);
     assert_eq!(rt; place(both.as_slice(), 0, Formal::Table), Some(1));
-    assert_eq!(rt;
-        place(
-            both.as_slice(),
-            next(both.as_slice(), 0, Formal::Table),
-            Formal::File
-        ),
-        Some(0)
-    );
+    assert_eq!(rt; place(both.as_slice(), before, Formal::File), Some(0));
     Ok(())
 }
