@@ -1,6 +1,7 @@
 //! Tables: named columns of one length, with a key, indices and column slots.
 #![tactic(auto)]
 
+mod copies;
 mod index;
 mod make;
 mod table;
