@@ -149,13 +149,13 @@ impl Table {
         let key = Vec::from_slice(alloc, &self.key)?;
         let indices = copied_indices(alloc, &self.indices)?;
         let frame = self.frame.copy(alloc, steps)?;
-        let slots = frame.width() + SPARE_COLUMNS;
+        let own_slots = frame.width() + SPARE_COLUMNS;
         Ok(Table {
             names,
             frame,
             key,
             indices,
-            slots,
+            slots: own_slots,
         })
     }
 }
