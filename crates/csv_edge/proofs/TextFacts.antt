@@ -26,12 +26,12 @@ pub all_text : (fs : List (List ℕ)) → list_all is_utf8 fs ≡ true → AllTe
 unfolding AllText
 all_text [] e = tt
 all_text (f ∷ fs) e =
-  let parts = both (is_utf8 f) (list_all is_utf8 fs) e in
-  (IsUtf8-from_is_utf8 f parts.0, all_text fs parts.1)
+    let parts = both (is_utf8 f) (list_all is_utf8 fs) e in
+    (IsUtf8-from_is_utf8 f parts.0, all_text fs parts.1)
 
 -- a record that is turned into texts is one of texts, and one that is refused is none
 pub texts_of : {E : Type 0} (fs : List (List ℕ)) (r : Result Row E) (o : Option Row) → o ≡ result_ok r
-  → IfOk r (λ s. fields_of s ≡ fs) → IfOk r (λ s. AllText (fields_of s)) → (AllText fs → IsOk r)
-  → MatchOption o (list_all is_utf8 fs ≡ false) (λ row. (fields_of row ≡ fs) × (list_all is_utf8 fs ≡ true))
+    → IfOk r (λ s. fields_of s ≡ fs) → IfOk r (λ s. AllText (fields_of s)) → (AllText fs → IsOk r)
+    → MatchOption o (list_all is_utf8 fs ≡ false) (λ row. (fields_of row ≡ fs) × (list_all is_utf8 fs ≡ true))
 texts_of fs (Ok s) o e same text refused = rw e (same, rw same at (all_utf8_true (fields_of s) text))
 texts_of fs (Err x) o e same text refused = rw e (not_true (list_all is_utf8 fs) (λ t. absurd (true≢false (sym (refused (all_text fs t))))))

@@ -17,7 +17,7 @@ unread rdr = source_of (λ text. Some text.now) rdr
 -- the records that are not read
 abbrev pub left : Reader (Bor (List ℕ)) → List Record
 left rdr =
-  records_from default_config (length (unwrap_or (unread rdr) []) + 1) (reader_state rdr) (unwrap_or (unread rdr) [])
+    records_from default_config (length (unwrap_or (unread rdr) []) + 1) (reader_state rdr) (unwrap_or (unread rdr) [])
 
 -- the next read is of one record with csv's defaults, from a place between two records
 pub record IsOpen (rdr : Reader (Bor (List ℕ))) : Type 0 where

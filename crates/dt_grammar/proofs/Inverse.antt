@@ -16,10 +16,10 @@ use Rattle.run_model.specs.TreeView.{tails_from, args_from, brackets_from, tree_
 use Rattle.dt_grammar.proofs.Trees.{tree_of-Lit, tree_of-Null, tree_of-Infinite, tree_of-Name, tree_of-Paren, tree_of-Minus, tree_of-Not, tree_of-Chain, tree_of-Call, tree_of-Query, tree_of-Formula, tails_of-push, args_of-push, brackets_of-push, bracket_of-roll, item_of_second-Value, item_of_second-Assign, item_of_second-AssignAll}
 
 -- one layer of a tree, and the tree that it is seen as
-abbrev Layer : Type 0
+abbrev pub Layer : Type 0
 Layer = Expr-F Expr Second Arg Bracket Tail
 
-abbrev seen_layer : Layer → Tree
+abbrev pub seen_layer : Layer → Tree
 seen_layer (layer.Lit c k) = Lit (Typed c k)
 seen_layer layer.Null = Lit Null
 seen_layer layer.Infinite = Lit Infinite
@@ -32,7 +32,7 @@ seen_layer (layer.Call x args) = Call x (args_of args)
 seen_layer (layer.Query t bs) = Query (tree_of t) (brackets_of bs)
 seen_layer (layer.Formula xs ys) = Formula xs ys
 
-tree_of-roll : (l : Layer) → tree_of (roll-Expr l) ≡ seen_layer l
+pub tree_of-roll : (l : Layer) → tree_of (roll-Expr l) ≡ seen_layer l
 tree_of-roll (layer.Lit c k) = ap tree_of (code.rolls-Lit c k) ∙ tree_of-Lit c k
 tree_of-roll layer.Null = ap tree_of code.rolls-Null ∙ tree_of-Null
 tree_of-roll layer.Infinite = ap tree_of code.rolls-Infinite ∙ tree_of-Infinite
@@ -45,15 +45,15 @@ tree_of-roll (layer.Call x args) = ap tree_of (code.rolls-Call x args) ∙ tree_
 tree_of-roll (layer.Query t bs) = ap tree_of (code.rolls-Query t bs) ∙ tree_of-Query t bs
 tree_of-roll (layer.Formula xs ys) = ap tree_of (code.rolls-Formula xs ys) ∙ tree_of-Formula xs ys
 
-abbrev SecondLayer : Type 0
+abbrev pub SecondLayer : Type 0
 SecondLayer = Second-F Expr Second Arg Bracket Tail
 
-abbrev seen_second : SecondLayer → Item
+abbrev pub seen_second : SecondLayer → Item
 seen_second (layer.Value t) = Given (tree_of t)
 seen_second (layer.Assign l r) = Assigns (tree_of l) (tree_of r)
 seen_second (layer.AssignAll args) = AssignsAll (args_of args)
 
-second-roll : (l : SecondLayer) → item_of_second (roll-Second l) ≡ seen_second l
+pub second-roll : (l : SecondLayer) → item_of_second (roll-Second l) ≡ seen_second l
 second-roll (layer.Value t) = ap item_of_second (second.rolls-Value t) ∙ item_of_second-Value t
 second-roll (layer.Assign l r) = ap item_of_second (second.rolls-Assign l r) ∙ item_of_second-Assign l r
 second-roll (layer.AssignAll args) = ap item_of_second (second.rolls-AssignAll args) ∙ item_of_second-AssignAll args
@@ -111,7 +111,7 @@ second_rolled : (o : Option Second) → option_map roll-Second (option_map out-S
 second_rolled None = refl
 second_rolled (Some s) = ap Some (roll-out-Second s)
 
-bracket_opened : (b : Bracket) → bracket_of b ≡ (let c = out-Bracket b in record { first = first_of c.first; second = second_of c.second; third = first_of c.third; args = args_of c.args })
+pub bracket_opened : (b : Bracket) → bracket_of b ≡ (let c = out-Bracket b in record { first = first_of c.first; second = second_of c.second; third = first_of c.third; args = args_of c.args })
 bracket_opened b = let c = out-Bracket b in ap bracket_of (sym (roll-out-Bracket b)) ∙ bracket_of-roll c.first c.second c.third c.args
 
 mutual
@@ -145,28 +145,28 @@ mutual
   back_tails NoTails rest q = elim (snoc_view rest) [ inl e ↦ sym e | inr r ↦ let p = sym (tails_of-push r.0 r.1) ∙ ap tails_of (sym r.2) ∙ q in absurd cc ]
   back_tails (MoreTails before op t) rest q =
       elim (snoc_view rest) [
-        inl e ↦ let p = ap tails_of (sym e) ∙ q in absurd cc
-      | inr r ↦
-          let p : MoreTails (tails_of r.0) r.1.op (tree_of r.1.arg) ≡ MoreTails before op t = sym (tails_of-push r.0 r.1) ∙ ap tails_of (sym r.2) ∙ q in
-          let a : tails_of r.0 ≡ before = cc in
-          let b : op ≡ r.1.op = cc in
-          let c : tree_of r.1.arg ≡ t = cc in
-          let d : record { op = op; arg = expr_from t } ≡ r.1 = ap₂ (λ o u. record { op = o; arg = u }) b (back t (out-Expr r.1.arg) (opened r.1.arg t c) ∙ roll-out-Expr r.1.arg) in
-          ap₂ (λ y z. y ++ z ∷ []) (back_tails before r.0 a) d ∙ sym r.2
+        | inl e ↦ let p = ap tails_of (sym e) ∙ q in absurd cc
+        | inr r ↦
+            let p : MoreTails (tails_of r.0) r.1.op (tree_of r.1.arg) ≡ MoreTails before op t = sym (tails_of-push r.0 r.1) ∙ ap tails_of (sym r.2) ∙ q in
+            let a : tails_of r.0 ≡ before = cc in
+            let b : op ≡ r.1.op = cc in
+            let c : tree_of r.1.arg ≡ t = cc in
+            let d : record { op = op; arg = expr_from t } ≡ r.1 = ap₂ (λ o u. record { op = o; arg = u }) b (back t (out-Expr r.1.arg) (opened r.1.arg t c) ∙ roll-out-Expr r.1.arg) in
+            ap₂ (λ y z. y ++ z ∷ []) (back_tails before r.0 a) d ∙ sym r.2
       ]
 
   back_args : (args : Args) (rest : List Arg) → args_of rest ≡ args → args_back args ≡ rest
   back_args NoArgs rest q = elim (snoc_view rest) [ inl e ↦ sym e | inr r ↦ let p = sym (args_of-push r.0 r.1) ∙ ap args_of (sym r.2) ∙ q in absurd cc ]
   back_args (MoreArgs before o t) rest q =
       elim (snoc_view rest) [
-        inl e ↦ let p = ap args_of (sym e) ∙ q in absurd cc
-      | inr r ↦
-          let p : MoreArgs (args_of r.0) r.1.name (tree_of r.1.value) ≡ MoreArgs before o t = sym (args_of-push r.0 r.1) ∙ ap args_of (sym r.2) ∙ q in
-          let a : args_of r.0 ≡ before = cc in
-          let b : o ≡ r.1.name = cc in
-          let c : tree_of r.1.value ≡ t = cc in
-          let d : record { name = o; value = expr_from t } ≡ r.1 = ap₂ (λ n u. record { name = n; value = u }) b (back t (out-Expr r.1.value) (opened r.1.value t c) ∙ roll-out-Expr r.1.value) in
-          ap₂ (λ y z. y ++ z ∷ []) (back_args before r.0 a) d ∙ sym r.2
+        | inl e ↦ let p = ap args_of (sym e) ∙ q in absurd cc
+        | inr r ↦
+            let p : MoreArgs (args_of r.0) r.1.name (tree_of r.1.value) ≡ MoreArgs before o t = sym (args_of-push r.0 r.1) ∙ ap args_of (sym r.2) ∙ q in
+            let a : args_of r.0 ≡ before = cc in
+            let b : o ≡ r.1.name = cc in
+            let c : tree_of r.1.value ≡ t = cc in
+            let d : record { name = o; value = expr_from t } ≡ r.1 = ap₂ (λ n u. record { name = n; value = u }) b (back t (out-Expr r.1.value) (opened r.1.value t c) ∙ roll-out-Expr r.1.value) in
+            ap₂ (λ y z. y ++ z ∷ []) (back_args before r.0 a) d ∙ sym r.2
       ]
 
   back_first : (x : Item) (o : Option Expr) → first_of o ≡ x → first_back x ≡ o
@@ -194,23 +194,23 @@ mutual
   back_brackets NoBrackets rest q = elim (snoc_view rest) [ inl e ↦ sym e | inr r ↦ let p = sym (brackets_of-push r.0 r.1) ∙ ap brackets_of (sym r.2) ∙ q in absurd cc ]
   back_brackets (MoreBrackets before i j by args) rest q =
       elim (snoc_view rest) [
-        inl e ↦ let p = ap brackets_of (sym e) ∙ q in absurd cc
-      | inr r ↦
-          let c = out-Bracket r.1 in
-          let p : MoreBrackets (brackets_of r.0) (first_of c.first) (second_of c.second) (first_of c.third) (args_of c.args) ≡ MoreBrackets before i j by args =
+        | inl e ↦ let p = ap brackets_of (sym e) ∙ q in absurd cc
+        | inr r ↦
+            let c = out-Bracket r.1 in
+            let p : MoreBrackets (brackets_of r.0) (first_of c.first) (second_of c.second) (first_of c.third) (args_of c.args) ≡ MoreBrackets before i j by args =
             ap (λ b. MoreBrackets (brackets_of r.0) b.first b.second b.third b.args) (sym (bracket_opened r.1)) ∙ sym (brackets_of-push r.0 r.1) ∙ ap brackets_of (sym r.2) ∙ q in
-          let e0 : brackets_of r.0 ≡ before = cc in
-          let e1 : first_of c.first ≡ i = cc in
-          let e2 : second_of c.second ≡ j = cc in
-          let e3 : first_of c.third ≡ by = cc in
-          let e4 : args_of c.args ≡ args = cc in
-          let f1 = back_first i c.first e1 in
-          let f2 = back_second j (option_map out-Second c.second) (second_opened c.second ∙ e2) ∙ second_rolled c.second in
-          let f3 = back_first by c.third e3 in
-          let f4 = back_args args c.args e4 in
-          let d : roll-Bracket (record { first = first_back i; second = second_back j; third = first_back by; args = args_back args }) ≡ r.1 =
+            let e0 : brackets_of r.0 ≡ before = cc in
+            let e1 : first_of c.first ≡ i = cc in
+            let e2 : second_of c.second ≡ j = cc in
+            let e3 : first_of c.third ≡ by = cc in
+            let e4 : args_of c.args ≡ args = cc in
+            let f1 = back_first i c.first e1 in
+            let f2 = back_second j (option_map out-Second c.second) (second_opened c.second ∙ e2) ∙ second_rolled c.second in
+            let f3 = back_first by c.third e3 in
+            let f4 = back_args args c.args e4 in
+            let d : roll-Bracket (record { first = first_back i; second = second_back j; third = first_back by; args = args_back args }) ≡ r.1 =
             ap₂ (λ x y. roll-Bracket (record { first = x; second = y; third = first_back by; args = args_back args })) f1 f2 ∙ ap₂ (λ x y. roll-Bracket (record { first = c.first; second = c.second; third = x; args = y })) f3 f4 ∙ roll-out-Bracket r.1 in
-          ap₂ (λ y z. y ++ z ∷ []) (back_brackets before r.0 e0) d ∙ sym r.2
+            ap₂ (λ y z. y ++ z ∷ []) (back_brackets before r.0 e0) d ∙ sym r.2
       ]
 
 -- the view is undone

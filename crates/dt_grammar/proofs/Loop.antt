@@ -27,11 +27,11 @@ module _ (us : List Placed) (i : ℕ) (d : Placed) (s : State) (h : i < length u
 
   pub fault_here : step s (plain_token (get_or us i d).token) ≡ None → IsFirstFault (plain_tokens us) i
   fault_here f = record {
-      within = omega (arith, length-map us plain);
-      before = subst IsViable (sym (take-map plain i us)) (viable (map plain (take i us)) s e);
-      after = λ lt. subst (λ z. IsViable z → ⊥) (sym (take-map plain (i + 1) us)) (not_viable (map plain (take (i + 1) us)) (run_more ∙ f));
-      at_end = λ same. absurd (omega (arith, length-map us plain))
-    }
+    within = omega (arith, length-map us plain);
+    before = subst IsViable (sym (take-map plain i us)) (viable (map plain (take i us)) s e);
+    after = λ lt. subst (λ z. IsViable z → ⊥) (sym (take-map plain (i + 1) us)) (not_viable (map plain (take (i + 1) us)) (run_more ∙ f));
+    at_end = λ same. absurd (omega (arith, length-map us plain));
+  }
 
 module _ (us : List Placed) (i : ℕ) (s : State) (h : i ≡ length us) (e : run init (plain_tokens (take i us)) ≡ Some s) where
   pub run_all : run init (plain_tokens us) ≡ Some s
@@ -39,11 +39,11 @@ module _ (us : List Placed) (i : ℕ) (s : State) (h : i ≡ length us) (e : run
 
   pub fault_at_end : finish s ≡ None → IsFirstFault (plain_tokens us) (length us)
   fault_at_end f = record {
-      within = omega (arith, length-map us plain);
-      before = subst IsViable (sym (take_all (length us) (map plain us) (omega (arith, length-map us plain)))) (viable (map plain us) s run_all);
-      after = λ lt. absurd (omega (arith, length-map us plain));
-      at_end = λ same. unfinished (map plain us) s run_all f
-    }
+    within = omega (arith, length-map us plain);
+    before = subst IsViable (sym (take_all (length us) (map plain us) (omega (arith, length-map us plain)))) (viable (map plain us) s run_all);
+    after = λ lt. absurd (omega (arith, length-map us plain));
+    at_end = λ same. unfinished (map plain us) s run_all f;
+  }
 
   pub script_here : (ss : List Stmt) → finish s ≡ Some ss → IsScript (plain_tokens us) ss
   script_here ss f = spelled (plain_tokens us) ss (ap (option_and_then finish) run_all ∙ f)

@@ -72,12 +72,15 @@ IsAnswered ts = ((ss : List Stmt) × IsScript ts ss) ⊎ ((n : ℕ) × IsFirstFa
 
 at_end : (ts : List Token) (s : State) → run init ts ≡ Some s → (r : Option (List Stmt)) → finish s ≡ r → IsAnswered ts
 at_end ts s e (Some ss) f = inl (ss, spelled ts ss (ap (option_and_then finish) e ∙ f))
-at_end ts s e None f = inr (length ts, record {
+at_end ts s e None f = inr (
+  length ts,
+  record {
     within = omega arith;
     before = viable_take (length ts) ts (viable ts s e);
     after = λ lt. absurd (omega arith);
-    at_end = λ same. unfinished ts s e f
-  })
+    at_end = λ same. unfinished ts s e f;
+  },
+)
 
 run_one_more : (ts : List Token) (x : Token) (s : State) (r : Option State) → run init ts ≡ Some s → step s x ≡ r → run init (ts ++ x ∷ []) ≡ r
 run_one_more ts x s r e f = run-append ts (x ∷ []) init ∙ ap (option_and_then (λ next. run next (x ∷ []))) e ∙ run_last (step s x) ∙ f
@@ -95,7 +98,7 @@ refused_at ts x xs s e f =
       within = omega arith;
       before = subst IsViable (sym (take-append_seam ts (x ∷ xs))) (viable ts s e);
       after = λ lt v. bad (subst IsViable cut v);
-      at_end = λ same. absurd (omega arith)
+      at_end = λ same. absurd (omega arith);
     }
 
 answers_step : (x : Token) (xs ts : List Token) (s : State) → run init ts ≡ Some s → ((next : State) → run init (ts ++ x ∷ []) ≡ Some next → IsAnswered ((ts ++ x ∷ []) ++ xs)) → (r : Option State) → step s x ≡ r → IsAnswered (ts ++ x ∷ xs)

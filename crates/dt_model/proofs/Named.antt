@@ -57,8 +57,8 @@ found k (e ∷ es) s h =
     (elim (is_table k e.1) as (λ c. is_table k e.1 ≡ c → (c || list_any (λ f. is_table k f.1) es) ≡ true → (q : List ℕ) × (b : Bound) × (find (slice_cmp nat_cmp) q (e ∷ es) ≡ Some b) × (is_table k b ≡ true)) [
       | true ↦ λ t g. (e.0, e.1, ap (λ c. cond c (Some e.1) (find (slice_cmp nat_cmp) e.0 es)) ((eq_by_cmp_equiv nat_list_cmp_total).refl e.0), t)
       | false ↦ λ t g.
-        let r = found k es (second _ _ s) g in
-        (r.0, r.1, passed (eq_by_cmp (slice_cmp nat_cmp) r.0 e.0) (Some e.1) (find (slice_cmp nat_cmp) r.0 es) (λ c. apart e.0 r.0 es r.1 (first _ _ s) r.2 (same_of r.0 e.0 c)) ∙ r.2, r.3)
+          let r = found k es (second _ _ s) g in
+          (r.0, r.1, passed (eq_by_cmp (slice_cmp nat_cmp) r.0 e.0) (Some e.1) (find (slice_cmp nat_cmp) r.0 es) (λ c. apart e.0 r.0 es r.1 (first _ _ s) r.2 (same_of r.0 e.0 c)) ∙ r.2, r.3)
     ]) refl h
 
 name_of : (m : Names) (k : ℕ) → has_name m k ≡ true → Named m k
@@ -99,8 +99,8 @@ one_named names tables more q k o others is h n =
     let r = name_of names k n in
     (elim (eq_by_cmp (slice_cmp nat_cmp) r.0 q) as (λ c. eq_by_cmp (slice_cmp nat_cmp) r.0 q ≡ c → has_name more k ≡ true) [
       | true ↦ λ e.
-        let at : o ≡ Some r.1 = is ∙ ap (get names) (sym (same_of r.0 q e)) ∙ r.2 in
-        swept_named more tables r.1 k r.3 (subst (λ p. IsSome (get (swept more tables p) k)) at h)
+          let at : o ≡ Some r.1 = is ∙ ap (get names) (sym (same_of r.0 q e)) ∙ r.2 in
+          swept_named more tables r.1 k r.3 (subst (λ p. IsSome (get (swept more tables p) k)) at h)
       | false ↦ λ e. named_by more r.0 r.1 k (others r.0 e ∙ r.2) r.3
     ]) refl
 
@@ -139,4 +139,4 @@ pub insert_same : (m : Tables) (k : ℕ) (v : PlainTable) → get m k ≡ Some v
 insert_same m k v h =
     same_map nat_cmp_total nat_cmp-IsAntisymmetric (insert m k v) m
     (λ q. get-insert nat_cmp_total m k v q
-      ∙ stays (eq_by_cmp nat_cmp q k) (Some v) (get m q) (λ e. sym (ap (get m) (eqb-true q k (unsigned_ties q k ∙ e)) ∙ h)))
+    ∙ stays (eq_by_cmp nat_cmp q k) (Some v) (get m q) (λ e. sym (ap (get m) (eqb-true q k (unsigned_ties q k ∙ e)) ∙ h)))

@@ -6,8 +6,6 @@ use Rattle.std.specs.Cmp.{unsigned_ties}
 use Rattle.std.proofs.lemmas.Bool.{eqb-true}
 use Rattle.std.specs.FinMap.{find, get, insert, remove, entries, empty, get-entries, get-empty, get-insert, get-remove}
 use Rattle.std.proofs.lemmas.Cmp.{nat_cmp_total, eq_by_cmp_equiv}
-
-
 use Rattle.dt_model.specs.Table.{PlainTable}
 use Rattle.dt_model.specs.State.{Bound, Table, Vector, Names, Tables, State, IsState, IsLive, is_table, has_name, swept, bound_to, bound_new, removed, added, with_table, empty_state}
 
@@ -85,7 +83,7 @@ still_none names tables (Some (Table j)) k h =
       | true ↦ h
       | false ↦ get-remove nat_cmp_total tables j k ∙ none_both (eq_by_cmp nat_cmp k j) h
     ])
-  
+
 -- each table that a map of names points to is there
 abbrev pub AllLive : Names → Tables → Type 0
 AllLive names tables = (q : List ℕ) (id : ℕ) → get names q ≡ Some (Table id) → IsSome (get tables id)

@@ -44,32 +44,32 @@ pub data OpFault : Type 0 where
 
 -- ---- Types
 
--- numbers are logicals and integers
-abbrev pub is_number : ColType → Bool
-is_number ty.Chr = false
-is_number _ = true
+-- arithmetic takes logicals and integers, and gives integers
+abbrev pub arithmetic_type : ColType → ColType → Option ColType
+arithmetic_type ty.Chr _ = None
+arithmetic_type _ ty.Chr = None
+arithmetic_type _ _ = Some ty.Int
 
-abbrev pub is_logical : ColType → Bool
-is_logical ty.Lgl = true
-is_logical _ = false
+-- `&` and `|` take logicals and give logicals
+abbrev pub logic_type : ColType → ColType → Option ColType
+logic_type ty.Lgl ty.Lgl = Some ty.Lgl
+logic_type _ _ = None
 
--- Arithmetic takes numbers and gives integers. Comparisons take any two types and give logicals. `&`
--- and `|` take logicals.
+-- comparisons take any two types and give logicals
 abbrev pub op_type : Op → ColType → ColType → Option ColType
-op_type op.Eq _ _ = Some ty.Lgl
-op_type op.Ne _ _ = Some ty.Lgl
-op_type op.Lt _ _ = Some ty.Lgl
-op_type op.Le _ _ = Some ty.Lgl
-op_type op.Gt _ _ = Some ty.Lgl
-op_type op.Ge _ _ = Some ty.Lgl
-op_type op.And t u = if is_logical t && is_logical u then Some ty.Lgl else None
-op_type op.Or t u = if is_logical t && is_logical u then Some ty.Lgl else None
-op_type _ t u = if is_number t && is_number u then Some ty.Int else None
+op_type op.Add t u = arithmetic_type t u
+op_type op.Sub t u = arithmetic_type t u
+op_type op.Mul t u = arithmetic_type t u
+op_type op.Div t u = arithmetic_type t u
+op_type op.Mod t u = arithmetic_type t u
+op_type op.And t u = logic_type t u
+op_type op.Or t u = logic_type t u
+op_type _ _ _ = Some ty.Lgl
 
--- `-` takes numbers and gives integers, `!` takes logicals, and `is.na` takes any type
+-- `-` takes logicals and integers and gives integers, `!` takes logicals, `is.na` takes any type
 abbrev pub unary_type : UnOp → ColType → Option ColType
-unary_type un.Neg t = if is_number t then Some ty.Int else None
-unary_type un.Not t = if is_logical t then Some ty.Lgl else None
+unary_type un.Neg t = arithmetic_type t t
+unary_type un.Not t = logic_type t t
 unary_type un.IsNa _ = Some ty.Lgl
 
 -- ---- Arithmetic: on whole numbers without bounds
@@ -258,9 +258,13 @@ unary o a = typed (unary_type o a.kind) (Ok (map (unary_cell o) a.cells))
 -- all cells in order, as long as there are at most 16,777,216
 abbrev pub combined : Vector → Vector → Result Vector OpFault
 combined a b =
-  let t = common a.kind b.kind in
-  if nat_lt 16777216 (length a.cells + length b.cells) then Err TooManyRows
-  else Ok (record { kind = t; cells = map (brought t) a.cells ++ map (brought t) b.cells })
+    let t = common a.kind b.kind in
+    if nat_lt 16777216 (length a.cells + length b.cells) then Err TooManyRows
+    else Ok (record { kind = t; cells = map (brought t) a.cells ++ map (brought t) b.cells })
+
+abbrev pub is_logical : ColType → Bool
+is_logical ty.Lgl = true
+is_logical _ = false
 
 -- the first where the test is TRUE, the second where it is FALSE, and NA where it is NA
 abbrev pub picked_by : Cell → Cell → Cell → Cell
@@ -276,15 +280,15 @@ goes_with n m = m == 1 || m == n
 -- test's, else Length with the test's length and the other. The result has the test's length.
 abbrev pub chosen : Vector → Vector → Vector → Result Vector OpFault
 chosen test a b =
-  let n = length test.cells in
-  let t = common a.kind b.kind in
-  if not (is_logical test.kind) then Err BadType
-  else (if not (goes_with n (length a.cells)) then Err (Length n (length a.cells))
-  else (if not (goes_with n (length b.cells)) then Err (Length n (length b.cells))
-  else Ok (record {
-    kind = t;
-    cells = at_places n (λ p. picked_by (cell_at test.cells p) (brought t (cell_for a.cells p)) (brought t (cell_for b.cells p)));
-  })))
+    let n = length test.cells in
+    let t = common a.kind b.kind in
+    if not (is_logical test.kind) then Err BadType
+    else (if not (goes_with n (length a.cells)) then Err (Length n (length a.cells))
+    else (if not (goes_with n (length b.cells)) then Err (Length n (length b.cells))
+    else Ok (record {
+      kind = t;
+      cells = at_places n (λ p. picked_by (cell_at test.cells p) (brought t (cell_for a.cells p)) (brought t (cell_for b.cells p)));
+    })))
 
 abbrev pub same_truth : Bool → Bool → Bool
 same_truth true y = y
@@ -301,8 +305,8 @@ same_cell _ _ = false
 -- for each cell of the first, whether the second has the same one, both in the common type
 abbrev pub contained : Vector → Vector → Vector
 contained a b =
-  let t = common a.kind b.kind in
-  record {
-    kind = ty.Lgl;
-    cells = map (λ c. is.Lgl (list_any (same_cell (brought t c)) (map (brought t) b.cells))) a.cells;
-  }
+    let t = common a.kind b.kind in
+    record {
+      kind = ty.Lgl;
+      cells = map (λ c. is.Lgl (list_any (same_cell (brought t c)) (map (brought t) b.cells))) a.cells;
+    }

@@ -64,7 +64,7 @@ abbrev pub bound_to : State → List ℕ → Bound → State
 bound_to s q b =
     record s {
       names = finite.insert s.names q b;
-      tables = swept (finite.insert s.names q b) s.tables (finite.get s.names q)
+      tables = swept (finite.insert s.names q b) s.tables (finite.get s.names q);
     }
 
 -- the name is bound no longer; a table that loses its last name by that is dropped
@@ -72,7 +72,7 @@ abbrev pub removed : State → List ℕ → State
 removed s q =
     record s {
       names = finite.remove s.names q;
-      tables = swept (finite.remove s.names q) s.tables (finite.get s.names q)
+      tables = swept (finite.remove s.names q) s.tables (finite.get s.names q);
     }
 
 -- one more table, under the next number

@@ -1,5 +1,5 @@
 -- Ranges of places, what is shown of a list, and the greatest of some numbers.
-use Rattle.std.proofs.Common.{◌≡◌, ◌∙◌, ℕ, zero, suc, ◌+◌, ◌-◌, ◌<◌, ◌≤◌, Bool, true, false, cond, max, List, [], ◌∷◌, ◌++◌, length, take, drop, get_or, refl, sym, ap, arith, append_assoc, add-one, length-append}
+use Rattle.std.proofs.Common.{◌≡◌, ◌∙◌, ℕ, zero, suc, ◌+◌, ◌-◌, ◌*◌, ◌<◌, ◌≤◌, Bool, true, false, cond, max, List, [], ◌∷◌, ◌++◌, length, take, drop, get_or, refl, sym, ap, arith, append_assoc, add-one, length-append}
 use Rattle.std.specs.Prelude.{map, nat_le, if◌then◌else◌, codes}
 use Rattle.std.specs.List.{flat_map, range_with_len, take-map, drop-map}
 use Rattle.std.proofs.lemmas.List.{map-append, length-map, append-nil}
@@ -117,3 +117,55 @@ lines_text-elided f n = rw length-map-range_with_len (by_size (nat_le n 100) (ab
 -- the lines of places, each with its line feed
 pub lines_text-map : (f : ℕ → List ℕ) (ps : List ℕ) → lines_text (map f ps) ≡ flat_map (λ p. f p ++ codes "\n") ps
 lines_text-map f ps = flat_map-map (λ l. l ++ codes "\n") f ps
+
+-- A loop over places: the widest so far, and one place more.
+pub widest_more : (f : ℕ → ℕ) (from p widest width result : ℕ) → from ≤ p
+    → widest ≡ greatest (map f (range_with_len from (p - from))) → width ≡ f p → result ≡ max widest width
+    → result ≡ greatest (map f (range_with_len from (p + 1 - from)))
+widest_more f from p widest width result h so_far here is_max =
+    is_max ∙ (λ i. max (so_far i) (here i)) ∙ sym (greatest-range_more f from p h)
+
+-- A loop over columns: as many touches for each.
+pub touches_more : (before start after k each : ℕ) → before ≡ start + k * each → after ≡ before + each
+    → after ≡ start + (k + 1) * each
+touches_more before start after k each so_far here = omega arith
+
+-- A loop that adds to a text: what it added so far, and what it adds at one place more.
+pub added_more : (f : ℕ → List ℕ) (from p : ℕ) (start before after added : List ℕ) → from ≤ p
+    → before ≡ start ++ flat_map f (range_with_len from (p - from)) → after ≡ before ++ added → added ≡ f p
+    → after ≡ start ++ flat_map f (range_with_len from (p + 1 - from))
+added_more f from p start before after added h so_far more here =
+    more ∙ (λ i. so_far i ++ here i)
+    ∙ append_assoc start (flat_map f (range_with_len from (p - from))) (f p)
+    ∙ ap (λ r. start ++ r) (sym (flat_map-range_more f from p h))
+
+-- the same from place 0 on
+pub added_next : (f : ℕ → List ℕ) (p : ℕ) (start before after added : List ℕ)
+    → before ≡ start ++ flat_map f (range_with_len 0 p) → after ≡ before ++ added → added ≡ f p
+    → after ≡ start ++ flat_map f (range_with_len 0 (p + 1))
+added_next f p start before after added so_far more here =
+    more ∙ (λ i. so_far i ++ here i)
+    ∙ append_assoc start (flat_map f (range_with_len 0 p)) (f p)
+    ∙ ap (λ r. start ++ r) (sym (ap (flat_map f) (ap (λ k. range_with_len 0 k) (add-one p) ∙ range-suc 0 p)
+    ∙ flat_map-append f (range_with_len 0 p) ((0 + p) ∷ [])
+    ∙ ap (λ r. flat_map f (range_with_len 0 p) ++ r) (append-nil (f (0 + p)) ∙ ap f (let e : 0 + p ≡ p = omega arith in e))))
+
+-- an element does not depend on what would stand past the end
+pub get_or-any : {X : Type 0} (xs : List X) (k : ℕ) (d e : X) → k < length xs → get_or xs k d ≡ get_or xs k e
+get_or-any [] k d e h = absurd (omega arith)
+get_or-any (x ∷ xs) zero d e h = refl
+get_or-any (x ∷ xs) (suc k) d e h = get_or-any xs k d e (omega arith)
+
+-- three pieces added one after another
+pub three_added : (start first second third x y z : List ℕ) → first ≡ start ++ x → second ≡ first ++ y → third ≡ second ++ z
+    → third ≡ start ++ (x ++ y ++ z)
+three_added start first second third x y z e f h =
+    h ∙ ap (λ r. r ++ z) (f ∙ ap (λ r. r ++ y) e)
+    ∙ append_assoc (start ++ x) y z ∙ append_assoc start x (y ++ z) ∙ ap (λ r. start ++ r) (sym (append_assoc x y z))
+
+-- A loop over rows: as many touches for each.
+pub touches_from : (before start after from p each : ℕ) → from ≤ p → before ≡ start + (p - from) * each → after ≡ before + each
+    → after ≡ start + (p + 1 - from) * each
+touches_from before start after from p each h so_far here =
+    touches_more before start after (p - from) each so_far here
+    ∙ ap (λ k. start + k * each) (let e : p - from + 1 ≡ p + 1 - from = omega arith in e)

@@ -1,13 +1,15 @@
 -- The lines of a table, said of a frame's columns and of widths that are given.
 --   first_count n, last_start n     how many rows are shown first, and where the last ones start
 --   shown_count n                   how many rows are shown
+--   label_width_at p, cell_width_at v p   the width of a label and of a cell
 --   width_in name v                 the width of a column of this name and vector
 --   frame_cell columns p c          the text of row p in column c
 --   names_part, cells_part          what follows the label in the header and in a row
 --   frame_line                      the line of a row, with its line feed
 --   dashes n                        the line between the first rows and the last ones
-use Rattle.std.specs.Prelude.{ℕ, ◌+◌, ◌-◌, ◌*◌, nat_le, if◌then◌else◌, max, List, [], ◌∷◌, ◌++◌, map, length, slice_get, slice_index, slice_index_or, codes, Option, None, Some}
-use Rattle.std.specs.List.{flat_map, range_with_len}
+--   empty_text names                a table without rows
+use Rattle.std.specs.Prelude.{ℕ, ◌+◌, ◌-◌, ◌*◌, nat_le, if◌then◌else◌, max, List, [], ◌∷◌, ◌++◌, map, length, slice_get, slice_index, slice_index_or, codes, decimal, Option, None, Some}
+use Rattle.std.specs.List.{flat_map, range_with_len, join_with_byte}
 use Rattle.dt_model.specs.Vector.{Vector, cell_at}
 use Rattle.na_vector.specs.Column.{Seen}
 use Rattle.run_model.specs.Printed.{characters, greatest, aligned, name_text, cell_text, shown, label}
@@ -23,6 +25,14 @@ last_start n = if nat_le n 100 then n else n - 5
 -- how many rows are shown
 abbrev pub shown_count : ℕ → ℕ
 shown_count n = first_count n + (n - last_start n)
+
+-- the width of the label of the row at a place
+abbrev pub label_width_at : ℕ → ℕ
+label_width_at p = characters (label (p + 1))
+
+-- the width of a vector's cell at a place
+abbrev pub cell_width_at : Vector → ℕ → ℕ
+cell_width_at v p = characters (cell_text v.kind (cell_at v.cells p))
 
 -- the width of a column of this name and vector
 unfoldable pub width_in : List ℕ → Vector → ℕ
@@ -61,3 +71,9 @@ frame_line label_width widths columns p =
 -- of more than a hundred rows, the line of dashes
 abbrev pub dashes : ℕ → List ℕ
 dashes n = if nat_le n 100 then [] else codes "---\n"
+
+-- a table without rows, of these names
+unfoldable pub empty_text : List (List ℕ) → List ℕ
+empty_text names =
+    codes "Empty data.table (0 rows and " ++ decimal (length names) ++ codes " cols): "
+    ++ join_with_byte 44 (map name_text names) ++ codes "\n"

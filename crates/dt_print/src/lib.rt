@@ -16,7 +16,11 @@
 #![tactic(auto)]
 
 mod cells;
+mod lines;
 mod messages;
 mod page;
+mod table;
+mod widths;
 
 pub use messages::{fault_line, warn_lines};
+pub use table::frame_text;

@@ -79,6 +79,13 @@ impl Page {
         }
     }
 
+    /// What was printed. It takes no memory.
+    pub fn into_text(self) -> Vec<u8>
+        ensures { result.items ≡ self.text.items }
+    {
+        self.text
+    }
+
     /// How wide a cell is. The printed text stays.
     pub fn cell_width(&mut self, kind: ColType, cell: CellRef<'_>) -> Result<usize, AllocError>
         ensures width { IfOk result (λ w. w ≡ characters (cell_text kind (seen cell.entry))) }

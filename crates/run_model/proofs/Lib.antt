@@ -1,4 +1,4 @@
+mod CsvExamples
 mod FirstPathExamples
 mod MessageExamples
 mod PrintedExamples
-mod CsvExamples

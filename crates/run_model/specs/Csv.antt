@@ -38,16 +38,16 @@ pub data FileFault : Type 0 where
 -- the header: the number of columns comes before UTF-8
 abbrev pub header_fault : Record → Option FileFault
 header_fault header =
-  if nat_lt 4096 (length header) then Some TooManyColumns
-  else (if not (list_all is_utf8 header) then Some (NotUtf8 1) else None)
+    if nat_lt 4096 (length header) then Some TooManyColumns
+    else (if not (list_all is_utf8 header) then Some (NotUtf8 1) else None)
 
 -- A record below the header, with `before` of them before it: the number of rows comes first, then
 -- the number of fields, then UTF-8.
 abbrev pub row_fault : ℕ → ℕ → Record → Option FileFault
 row_fault width before row =
-  if nat_le 16777216 before then Some TooManyRows
-  else (if not (length row == width) then Some (Ragged (before + 2))
-  else (if not (list_all is_utf8 row) then Some (NotUtf8 (before + 2)) else None))
+    if nat_le 16777216 before then Some TooManyRows
+    else (if not (length row == width) then Some (Ragged (before + 2))
+    else (if not (list_all is_utf8 row) then Some (NotUtf8 (before + 2)) else None))
 
 -- the first of two faults
 abbrev pub fault_or : Option FileFault → Option FileFault → Option FileFault
@@ -91,7 +91,7 @@ unless_fault None t = Ok t
 abbrev pub read_records : List Record → Result (PlainTable × Warns) FileFault
 read_records [] = Ok (no_table, no_warns)
 read_records (header ∷ rows) =
-  unless_fault (fault_or (header_fault header) (rows_fault (length header) 0 rows))
+    unless_fault (fault_or (header_fault header) (rows_fault (length header) 0 rows))
     (records_table header rows, name_warns header)
 
 -- a byte order mark at the head is dropped, once; the records are those of csv's default reader
@@ -101,7 +101,7 @@ read_csv bytes = read_records (records default_config (strip_bom bytes))
 -- the header of names, and a record of texts for each row; nothing for a table without columns
 abbrev pub written_rows : PlainTable → List Record
 written_rows t =
-  if length t.columns == 0 then [] else map (λ h. h.name) t.columns ∷ map (map cell_text) t.rows
+    if length t.columns == 0 then [] else map (λ h. h.name) t.columns ∷ map (map cell_text) t.rows
 
 -- the row texts of csv's default writer, one after the other
 abbrev pub written_csv : PlainTable → List ℕ

@@ -31,7 +31,7 @@ suits ty.Chr f = true
 -- the lowest type that suits every field of the column
 abbrev pub fields_type : List (List ℕ) → ColType
 fields_type fs =
-  if list_all (suits ty.Lgl) fs then ty.Lgl else (if list_all (suits ty.Int) fs then ty.Int else ty.Chr)
+    if list_all (suits ty.Lgl) fs then ty.Lgl else (if list_all (suits ty.Int) fs then ty.Int else ty.Chr)
 
 -- NA is NA in each column. An empty field is NA in a logical or integer column, and the empty text
 -- in a column of texts.

@@ -31,7 +31,7 @@ numbered n k = n ++ 46 ∷ decimal k
 -- count and one does, so the search always finds it.
 abbrev pub least_new : List (List ℕ) → List ℕ → ℕ
 least_new names n =
-  unwrap_or (find (λ k. not (is_among (numbered n k) names)) (range_with_len 1 (length names + 1))) 0
+    unwrap_or (find (λ k. not (is_among (numbered n k) names)) (range_with_len 1 (length names + 1))) 0
 
 -- a name that stands already gets the least number that makes it new
 abbrev pub new_name : List (List ℕ) → List ℕ → List ℕ

@@ -42,7 +42,7 @@ is_bad_name name = (length name == 0) || not (is_utf8 name)
 -- whether some name stands again behind its place
 abbrev pub has_repeat : List (List ℕ) → Bool
 has_repeat [] = false
-has_repeat (name ∷ names) = list_any (bytes_eq name) names || has_repeat names
+has_repeat (name ∷ names) = list_any (λ other. bytes_eq other name) names || has_repeat names
 
 -- A header is refused where it has more than 4,096 fields, or a field that is empty, not UTF-8 or
 -- repeated.

@@ -5,8 +5,8 @@ use Rattle.csv_edge.proofs.columns.field_at.Goals as goal
 
 pub returns : goal.returns
 returns c =
-  let e = c.in-Some.ensures.value ∙ field_within (fields_of c.args.row.now) c.args.i c.requires in cc
+    let e = c.in-Some.ensures.value ∙ field_within (fields_of c.args.row.now) c.args.i c.requires in cc
 
 pub unreachable-requires : goal.unreachable-requires
 unreachable-requires c =
-  let e = c.in-None.ensures.value ∙ field_within (fields_of c.args.row.now) c.args.i c.requires in cc
+    let e = c.in-None.ensures.value ∙ field_within (fields_of c.args.row.now) c.args.i c.requires in cc

@@ -7,11 +7,11 @@ use Rattle.csv_edge.proofs.columns.read_rows.Given as goal
 -- what is left has the fault that all have, and the columns gain the fields of what is left
 abbrev pub invariant-loop-raw : goal.invariant-loop-raw
 invariant-loop-raw l =
-  IsOpen l.rdr
-  × (rows_fault (length l.fn.columns) l.before (left l.rdr) ≡ rows_fault (length l.fn.columns) 0 (left l.fn.rdr))
-  × ((c : ℕ) (d : Row) → c < length l.fn.columns
+    IsOpen l.rdr
+    × (rows_fault (length l.fn.columns) l.before (left l.rdr) ≡ rows_fault (length l.fn.columns) 0 (left l.fn.rdr))
+    × ((c : ℕ) (d : Row) → c < length l.fn.columns
     → fields_of (get_or l.columns c d) ++ fields_at c (left l.rdr) ≡ fields_of (get_or l.fn.columns c d) ++ fields_at c (left l.fn.rdr))
-  × (l.before ≤ 16777216)
+    × (l.before ≤ 16777216)
 
 -- fewer records are left each time
 abbrev pub decreases-loop-raw : goal.decreases-loop-raw

@@ -8,7 +8,7 @@ pub returns-clause-open : goal.returns-clause-open
 returns-clause-open c = elim c.match-read_byte_record.branch [
   | in-Ok w ↦ rw w.result-is
       (left_after w.in-Ok.found c.args.rdr.now c.read_byte_record.new.self (fields_of c.read_byte_record.new.row) c.requires
-        (w.in-Ok.ensures.ready c.requires.plain) (w.in-Ok.ensures.reads c.requires.plain c.requires.ready)).0
+      (w.in-Ok.ensures.ready c.requires.plain) (w.in-Ok.ensures.reads c.requires.plain c.requires.ready)).0
   | in-Err w ↦ rw w.result-is tt
 ]
 
@@ -16,6 +16,6 @@ pub returns-clause-record : goal.returns-clause-record
 returns-clause-record c = elim c.match-read_byte_record.branch [
   | in-Ok w ↦ rw w.result-is
       (left_after w.in-Ok.found c.args.rdr.now c.read_byte_record.new.self (fields_of c.read_byte_record.new.row) c.requires
-        (w.in-Ok.ensures.ready c.requires.plain) (w.in-Ok.ensures.reads c.requires.plain c.requires.ready)).1
+      (w.in-Ok.ensures.ready c.requires.plain) (w.in-Ok.ensures.reads c.requires.plain c.requires.ready)).1
   | in-Err w ↦ rw w.result-is tt
 ]
