@@ -6,4 +6,5 @@ pub mod NamesFacts
 pub mod OneRecord
 pub mod RowFacts
 pub mod Sizes
+pub mod TableFacts
 pub mod TextFacts

@@ -25,17 +25,17 @@ or_cond false false = refl
 
 -- the set and the list gained the same name
 pub set_pushed : (list more : List (List ℕ)) (name q : List ℕ) (was now : Bool) → now ≡ cond (bytes_eq name q) true was
-  → was ≡ list_any (bytes_eq q) list → more ≡ list ++ name ∷ [] → now ≡ list_any (bytes_eq q) more
+    → was ≡ list_any (bytes_eq q) list → more ≡ list ++ name ∷ [] → now ≡ list_any (bytes_eq q) more
 set_pushed list more name q was now after before e =
-  after ∙ (or_cond (bytes_eq name q) was ∙ rw (e, list_any-append (bytes_eq q) list (name ∷ []), before, nat_list_eq_equiv.symm name q) refl)
+    after ∙ (or_cond (bytes_eq name q) was ∙ rw (e, list_any-append (bytes_eq q) list (name ∷ []), before, nat_list_eq_equiv.symm name q) refl)
 
 -- ---- the least number
 
 -- the least number that makes a name new, where the lesser ones do not
 pub least_found : (names : List (List ℕ)) (n : List ℕ) (k : ℕ) → 1 ≤ k → k < length names + 2 → is_among (numbered n k) names ≡ false
-  → ((j : ℕ) → 1 ≤ j → j < k → is_among (numbered n j) names ≡ true) → least_new names n ≡ k
+    → ((j : ℕ) → 1 ≤ j → j < k → is_among (numbered n j) names ≡ true) → least_new names n ≡ k
 least_found names n k low high here before =
-  ap (λ o. unwrap_or o 0)
+    ap (λ o. unwrap_or o 0)
     (find_least (λ k. not (is_among (numbered n k) names)) (length names + 1) 1 k low (omega arith) (ap not here) (λ j l h. ap not (before j l h)))
 
 -- a test of two texts that says true
@@ -50,34 +50,34 @@ tail_of (x ∷ xs) = xs
 numbers_apart : (n : List ℕ) (j k : ℕ) → j < k → k < 2 ^ 64 → bytes_eq (numbered n j) (numbered n k) ≡ false
 unfolding tail_of
 numbers_apart n j k lt small =
-  false_from_ne_true (bytes_eq (numbered n j) (numbered n k)) (λ e.
+    false_from_ne_true (bytes_eq (numbered n j) (numbered n k)) (λ e.
     let same = append_cancel_left n (46 ∷ decimal j) (46 ∷ decimal k) (same_text (numbered n j) (numbered n k) e) in
     let one : j ≡ k = decimal_injective j k (omega arith) small (ap tail_of same) in
     absurd (omega arith))
 
 -- what all these numbers give is old
 all_old : (count a : ℕ) (names : List (List ℕ)) (n q : List ℕ)
-  → ((j : ℕ) → a ≤ j → j < a + count → is_among (numbered n j) names ≡ true)
-  → list_any (bytes_eq q) (map (numbered n) (range_with_len a count)) ≡ true → list_any (bytes_eq q) names ≡ true
+    → ((j : ℕ) → a ≤ j → j < a + count → is_among (numbered n j) names ≡ true)
+    → list_any (bytes_eq q) (map (numbered n) (range_with_len a count)) ≡ true → list_any (bytes_eq q) names ≡ true
 all_old zero a names n q old e = absurd (true≢false (sym e))
 all_old (suc count) a names n q old e =
-  (elim (bytes_eq q (numbered n a)) as (λ b. bytes_eq q (numbered n a) ≡ b
+    (elim (bytes_eq q (numbered n a)) as (λ b. bytes_eq q (numbered n a) ≡ b
     → (b || list_any (bytes_eq q) (map (numbered n) (range_with_len (a + 1) count))) ≡ true → list_any (bytes_eq q) names ≡ true) [
-    | true ↦ λ h _. rw (same_text q (numbered n a) h) (old a (omega arith) (omega arith))
-    | false ↦ λ h rest. all_old count (a + 1) names n q (λ j l u. old j (omega arith) (omega arith)) rest
-  ]) refl e
+      | true ↦ λ h _. rw (same_text q (numbered n a) h) (old a (omega arith) (omega arith))
+      | false ↦ λ h rest. all_old count (a + 1) names n q (λ j l u. old j (omega arith) (omega arith)) rest
+    ]) refl e
 
 -- so many numbers cannot all leave the name old
 pub not_all_old : (names : List (List ℕ)) (n : List ℕ) → length names < 2 ^ 63
-  → ((j : ℕ) → 1 ≤ j → j < length names + 2 → is_among (numbered n j) names ≡ true) → ⊥
+    → ((j : ℕ) → 1 ≤ j → j < length names + 2 → is_among (numbered n j) names ≡ true) → ⊥
 not_all_old names n small old =
-  let count = length names + 1 in
-  let these = map (numbered n) (range_with_len 1 count) in
-  let many : length these ≡ count = length-map (range_with_len 1 count) (numbered n) ∙ length-range_with_len 1 count in
-  let apart : IsDistinct bytes_eq these =
+    let count = length names + 1 in
+    let these = map (numbered n) (range_with_len 1 count) in
+    let many : length these ≡ count = length-map (range_with_len 1 count) (numbered n) ∙ length-range_with_len 1 count in
+    let apart : IsDistinct bytes_eq these =
     IsDistinct-from_apart bytes_eq these (λ i j d lt within.
-      rw (get_or-map-range_with_len (numbered n) 1 count i (1 + i) d (omega arith) refl, get_or-map-range_with_len (numbered n) 1 count j (1 + j) d (omega arith) refl)
-        (numbers_apart n (1 + i) (1 + j) (omega arith) (omega arith))) in
-  let few : length these ≤ length names =
+    rw (get_or-map-range_with_len (numbered n) 1 count i (1 + i) d (omega arith) refl, get_or-map-range_with_len (numbered n) 1 count j (1 + j) d (omega arith) refl)
+    (numbers_apart n (1 + i) (1 + j) (omega arith) (omega arith))) in
+    let few : length these ≤ length names =
     length-le_from_is_member nat_list_eq_equiv these names apart (λ q e. all_old count 1 names n q (λ j l u. old j l (omega arith)) e) in
-  omega arith
+    omega arith

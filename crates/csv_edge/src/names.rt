@@ -78,10 +78,7 @@ impl Names {
 /// its place, and a name that stands already gets the least number that makes it new.
 ///
 /// dtq's own rule, docs/LANGUAGE.md, section "CSV files".
-pub(crate) fn column_names(
-    alloc: Global,
-    header: &StringRecord,
-) -> Result<Vec<ColName>, AllocError>
+pub(crate) fn column_names(alloc: Global, header: &StringRecord) -> Result<Vec<ColName>, AllocError>
     ensures { IfOk result (λ names. names.items ≡ file.column_names (fields_of header.now)) }
 {
     let mut names = Names::new(alloc);

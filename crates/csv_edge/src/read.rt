@@ -7,7 +7,7 @@ ghost use Rattle.run_model.specs.Csv as file;
 
 use crate::CsvFail;
 use crate::check::checked_header;
-use crate::columns::{empty_columns, read_rows};
+use crate::columns::gather_columns;
 use crate::frame::frame_of;
 use crate::records::{next_record, open};
 use crate::table::{named_table, no_columns};
@@ -62,8 +62,7 @@ fn read_below(
     ensures refused { IfErr result (λ e. Refuses e (file.read_records (fields_of header ∷ left rdr.old))) }
 {
     let header = checked_header(header)?;
-    let mut columns = empty_columns(alloc, header.len())?;
-    read_rows(alloc, rdr, &mut columns)?;
+    let columns = gather_columns(alloc, rdr, header.len())?;
     let frame = frame_of(alloc, columns)?;
     Ok(named_table(alloc, &header, frame)?)
 }

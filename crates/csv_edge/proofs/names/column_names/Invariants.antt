@@ -6,4 +6,4 @@ use Rattle.csv_edge.proofs.names.column_names.Given as goal
 -- the headers that are left give behind the names so far what all headers give
 abbrev pub invariant-loop-i : goal.invariant-loop-i
 invariant-loop-i l =
-  (names_after l.names (drop l.i (fields_of l.header)) ≡ names_after [] (fields_of l.header)) × (length l.names ≡ l.i)
+    (names_after l.names (drop l.i (fields_of l.header)) ≡ names_after [] (fields_of l.header)) × (length l.names ≡ l.i)

@@ -8,4 +8,4 @@ use Rattle.csv_edge.proofs.typed.texts.Given as goal
 -- the words so far and the cells of the fields that are left are the cells of all
 abbrev pub invariant-loop-i : goal.invariant-loop-i
 invariant-loop-i l =
-  map text_cell l.texts.items ++ map (field_cell ty.Chr) (drop l.i (fields_of l.fields)) ≡ map (field_cell ty.Chr) (fields_of l.fields)
+    map text_cell l.texts.items ++ map (field_cell ty.Chr) (drop l.i (fields_of l.fields)) ≡ map (field_cell ty.Chr) (fields_of l.fields)
