@@ -1,3 +1,4 @@
+pub mod AllowedTrees
 pub mod Bytes
 pub mod Csv
 pub mod CsvCells
