@@ -1,9 +1,9 @@
 -- Worked scripts: what the machine parses, where it stops, and which assignments stand wrong.
-use Rattle.std.proofs.Common.{◌≡◌, ℕ, List, [], ◌∷◌, ◌++◌, Option, Some, None, codes, refl}
-use Rattle.dt_base.specs.declared.operators.Op.TheVariants.{Add, Sub, Mul, Eq, Lt, And, Or}
-use Rattle.dt_tree.specs.declared.tree.BinOp.TheVariants.{Arith, In, Range}
-use Rattle.run_model.specs.GrammarTrees.{Word, Null, Not, Negate, Token, Name, Literal, Operator, Bang, Tilde, Assign, Arrow, Is, Open, Shut, OpenSquare, ShutSquare, Comma, Break, Tree, Lit, Var, Paren, Unary, Chain, Call, Query, Formula, Tails, NoTails, MoreTails, Args, NoArgs, MoreArgs, Absent, Given, Assigns, AssignsAll, Brackets, NoBrackets, MoreBrackets, Stmt}
-use Rattle.dt_grammar.specs.Machine.{State, run, init, parsed}
+use Rattle.std.proofs.Common.{◌≡◌, List, [], ◌∷◌, ◌++◌, Some, None, codes, refl}
+use Rattle.dt_base.specs.declared.operators.Op.TheVariants.{Add, Sub, Mul, Eq}
+use Rattle.dt_tree.specs.declared.tree.BinOp.TheVariants.{Arith, Range}
+use Rattle.run_model.specs.GrammarTrees.{Word, Null, Not, Negate, Token, Name, Literal, Operator, Bang, Tilde, Assign, Arrow, Is, Open, Shut, OpenSquare, ShutSquare, Comma, Break, Tree, Lit, Var, Paren, Unary, Chain, Call, Query, Formula, NoTails, MoreTails, NoArgs, MoreArgs, Absent, Given, Assigns, AssignsAll, Brackets, NoBrackets, MoreBrackets, Stmt}
+use Rattle.dt_grammar.specs.Machine.{run, init, parsed}
 use Rattle.run_model.specs.Misplaced.{misplaced}
 
 abbrev a : Word

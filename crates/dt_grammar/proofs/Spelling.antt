@@ -1,5 +1,5 @@
 -- Each tree that the rules allow is spelled by some tokens.
-use Rattle.std.proofs.Common.{◌≡◌, ◌≢◌, ℕ, suc, ◌≤◌, ◌⊎◌, inl, inr, Bool, true, false, List, [], ◌∷◌, ◌++◌, map, Option, Some, None, codes, refl, sym, ◌∙◌, ap, subst, arith, append_assoc, append-nil}
+use Rattle.std.proofs.Common.{◌≡◌, ◌≢◌, ℕ, suc, inl, inr, true, false, List, [], ◌∷◌, ◌++◌, map, Option, Some, None, codes, refl, sym, ap, subst, arith, append_assoc, append-nil}
 use Rattle.std.proofs.lemmas.List.{map-append}
 use Rattle.dt_base.specs.declared.cell.Cell.TheVariants as cell
 use Rattle.dt_base.specs.declared.cell.ColType.TheVariants as ty
@@ -11,8 +11,8 @@ use Rattle.dt_tree.specs.declared.token.Token.TheVariants as token
 use Rattle.dt_tree.specs.declared.tree.BinOp.{BinOp}
 use Rattle.dt_tree.specs.declared.tree.BinOp.TheVariants.{Arith, In, Range}
 use Rattle.run_model.specs.AllowedTrees.{IsLiteral, level_of, IsFormula, IsAllowed, AreTails, AreArgs, IsPlain, IsSecond, AreNamed, AreBrackets, AreStmts}
-use Rattle.run_model.specs.GrammarTrees.{Word, Value, Typed, Null, Infinite, Not, Negate, Token, Name, Literal, Operator, Open, Shut, OpenSquare, ShutSquare, Comma, Assign, Tilde, Is, Break, Tree, Lit, Var, Paren, Unary, Chain, Call, Query, Formula, Tails, NoTails, MoreTails, Args, NoArgs, MoreArgs, Item, Absent, Given, Assigns, AssignsAll, Brackets, NoBrackets, MoreBrackets, Stmt}
-use Rattle.run_model.specs.Grammar.{level, is_single, prefix_level, post, prim, Filled, UpToI, UpToJ, UpToBy, as_j, IsTarget, without, named, IsLeft, plain, IsNames, name, names, IsExpr, chain, unary, literal, var, paren, call, bracket, IsTails, one, again, IsHead, bare, behind, IsArg, expr, formula, IsArgs, none, some, IsBefore, first, later, IsItem, empty, value, assigns, IsItems, unnamed, with, IsFilled, begin, comma, IsLines, start, blank, line, IsScript, ended}
+use Rattle.run_model.specs.GrammarTrees.{Word, Value, Typed, Null, Infinite, Not, Negate, Token, Name, Literal, Operator, Open, Shut, OpenSquare, ShutSquare, Assign, Tilde, Is, Break, Tree, Lit, Var, Paren, Unary, Chain, Call, Query, Formula, Tails, NoTails, MoreTails, Args, NoArgs, MoreArgs, Item, Absent, Given, Assigns, AssignsAll, Brackets, NoBrackets, MoreBrackets, Stmt}
+use Rattle.run_model.specs.Grammar.{level, is_single, prefix_level, post, prim, UpToI, UpToJ, UpToBy, IsTarget, without, named, IsLeft, plain, IsNames, name, names, IsExpr, chain, unary, literal, var, paren, call, bracket, IsTails, one, again, IsHead, bare, behind, IsArg, expr, formula, IsArgs, none, some, IsBefore, first, later, IsItem, empty, value, assigns, IsItems, unnamed, with, IsFilled, begin, comma, IsLines, start, blank, line, IsScript, ended}
 use Rattle.run_model.specs.TokenView.{plain_token}
 use Rattle.dt_grammar.proofs.Sound.{lower}
 

@@ -5,7 +5,7 @@
 --   EachIsAnswered     tokens spell a script or have a first fault
 --   OneFault           two faults of tokens are equal, and tokens of a right script have none
 --   MarksInStep        each mark of a script has its flag
-use Rattle.std.specs.Prelude.{◌≡◌, ℕ, List, map, length, Option, None, ◌⊎◌}
+use Rattle.std.specs.Prelude.{◌≡◌, ℕ, List, map, length, None, ◌⊎◌}
 use Rattle.dt_tree.specs.declared.token.Token as token_type
 use Rattle.dt_tree.specs.declared.tree.Script.{Script}
 use Rattle.run_model.specs.AllowedTrees.{AreStmts}

@@ -8,10 +8,10 @@
 --   AreNamed args       the arguments of a bracket, each with a name
 --   AreBrackets bs      one bracket or more
 --   AreStmts ss         the statements of a script
-use Rattle.std.specs.Prelude.{◌≡◌, ◌≢◌, ℕ, suc, ◌≤◌, Bool, false, List, [], ◌∷◌, Option, Some, None, ◌⊎◌}
+use Rattle.std.specs.Prelude.{◌≡◌, ◌≢◌, ℕ, suc, ◌≤◌, false, List, [], ◌∷◌, Some, None, ◌⊎◌}
 use Rattle.dt_base.specs.declared.cell.Cell.TheVariants as cell
 use Rattle.dt_base.specs.declared.cell.ColType.TheVariants as ty
-use Rattle.run_model.specs.GrammarTrees.{Word, Value, Typed, Null, Infinite, Tree, Lit, Var, Paren, Unary, Chain, Call, Query, Formula, Tails, NoTails, MoreTails, Args, NoArgs, MoreArgs, Item, Absent, Given, Assigns, AssignsAll, Brackets, NoBrackets, MoreBrackets, Stmt}
+use Rattle.run_model.specs.GrammarTrees.{Value, Typed, Null, Infinite, Tree, Lit, Var, Paren, Unary, Chain, Call, Query, Formula, Tails, NoTails, MoreTails, Args, NoArgs, MoreArgs, Item, Absent, Given, Assigns, AssignsAll, Brackets, NoBrackets, MoreBrackets, Stmt}
 use Rattle.run_model.specs.Grammar.{level, is_single, prefix_level, post, prim, as_j}
 
 -- a literal's cell is NA or of its type
