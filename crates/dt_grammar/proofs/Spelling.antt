@@ -10,7 +10,7 @@ use Rattle.dt_tree.specs.declared.token.Token as token_type
 use Rattle.dt_tree.specs.declared.token.Token.TheVariants as token
 use Rattle.dt_tree.specs.declared.tree.BinOp.{BinOp}
 use Rattle.dt_tree.specs.declared.tree.BinOp.TheVariants.{Arith, In, Range}
-use Rattle.run_model.specs.AllowedTrees.{IsLiteral, level_of, IsFormula, IsAllowed, AreTails, AreArgs, IsPlain, IsSecond, AreNamed, AreBrackets, AreStmts}
+use Rattle.dt_grammar.specs.AllowedTrees.{IsLiteral, level_of, IsFormula, IsAllowed, AreTails, AreArgs, IsPlain, IsSecond, AreNamed, AreBrackets, AreStmts}
 use Rattle.run_model.specs.GrammarTrees.{Word, Value, Typed, Null, Infinite, Not, Negate, Token, Name, Literal, Operator, Open, Shut, OpenSquare, ShutSquare, Assign, Tilde, Is, Break, Tree, Lit, Var, Paren, Unary, Chain, Call, Query, Formula, Tails, NoTails, MoreTails, Args, NoArgs, MoreArgs, Item, Absent, Given, Assigns, AssignsAll, Brackets, NoBrackets, MoreBrackets, Stmt}
 use Rattle.run_model.specs.Grammar.{level, is_single, prefix_level, post, prim, UpToI, UpToJ, UpToBy, IsTarget, without, named, IsLeft, plain, IsNames, name, names, IsExpr, chain, unary, literal, var, paren, call, bracket, IsTails, one, again, IsHead, bare, behind, IsArg, expr, formula, IsArgs, none, some, IsBefore, first, later, IsItem, empty, value, assigns, IsItems, unnamed, with, IsFilled, begin, comma, IsLines, start, blank, line, IsScript, ended}
 use Rattle.run_model.specs.TokenView.{plain_token}

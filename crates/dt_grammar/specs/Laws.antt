@@ -8,7 +8,7 @@
 use Rattle.std.specs.Prelude.{◌≡◌, ℕ, List, map, length, None, ◌⊎◌}
 use Rattle.dt_tree.specs.declared.token.Token as token_type
 use Rattle.dt_tree.specs.declared.tree.Script.{Script}
-use Rattle.run_model.specs.AllowedTrees.{AreStmts}
+use Rattle.dt_grammar.specs.AllowedTrees.{AreStmts}
 use Rattle.run_model.specs.FirstFault.{IsFirstFault}
 use Rattle.run_model.specs.Grammar.{IsScript}
 use Rattle.run_model.specs.GrammarTrees.{Token, Stmt}

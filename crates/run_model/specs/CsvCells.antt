@@ -5,7 +5,7 @@
 --   field_cell t f        the cell of a field in a column of type t
 --   fields_vector fs      the column with these fields
 --   cell_text c           the text of a cell in a file
-use Rattle.std.specs.Prelude.{ℕ, Bool, true, ◌||◌, List, [], map, is_some, if◌then◌else◌, codes}
+use Rattle.std.specs.Prelude.{ℕ, Bool, true, ◌||◌, List, [], Option, map, is_some, if◌then◌else◌, codes}
 use Rattle.std.specs.List.{list_all}
 use Rattle.std.specs.Option.{option_map_or}
 use Rattle.std.specs.Str.{bytes_eq}

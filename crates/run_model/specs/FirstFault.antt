@@ -1,7 +1,7 @@
 -- Where the first fault of a list of tokens stands.
 --   IsViable ts          some script begins with these tokens
 --   IsFirstFault ts n    the grammar's fault stands at token n, counted from 0, or at the end
-use Rattle.std.specs.Prelude.{◌≡◌, ℕ, ◌+◌, ◌≤◌, ◌<◌, List, ◌++◌, length, take}
+use Rattle.std.specs.Prelude.{◌≡◌, ℕ, suc, ◌+◌, ◌≤◌, ◌<◌, List, [], ◌∷◌, ◌++◌, length, take}
 use Rattle.run_model.specs.GrammarTrees.{Token, Stmt}
 use Rattle.run_model.specs.Grammar.{IsScript}
 

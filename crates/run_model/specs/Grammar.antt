@@ -10,7 +10,7 @@
 --   IsItem j ts x      empty | expr | expr ":=" expr, the last one as j alone
 -- An operator's level says how tightly it binds, and `IsExpr k` is an expression whose operators
 -- outside of brackets bind at least as tightly as k: one family in place of eleven.
-use Rattle.std.specs.Prelude.{◌≡◌, ℕ, suc, Bool, true, false, List, [], ◌∷◌, ◌++◌, Option, Some, None, codes, if◌then◌else◌}
+use Rattle.std.specs.Prelude.{◌≡◌, ℕ, suc, ◌+◌, Bool, true, false, List, [], ◌∷◌, ◌++◌, Option, Some, None, codes, if◌then◌else◌}
 use Rattle.std.specs.Str.{bytes_eq}
 use Rattle.dt_base.specs.declared.operators.Op.TheVariants.{Add, Sub, Mul, Div, Mod, Eq, Ne, Lt, Le, Gt, Ge, And, Or}
 use Rattle.dt_tree.specs.declared.tree.BinOp.{BinOp}

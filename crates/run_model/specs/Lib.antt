@@ -1,4 +1,3 @@
-pub mod AllowedTrees
 pub mod Bytes
 pub mod Csv
 pub mod CsvCells

@@ -4,7 +4,7 @@
 --   fault_place s us n   the place of token n in the text s, or the place after its last byte
 --   IsReadAs s t         the bytes s are the script t
 --   IsRefused s f        the bytes s have the fault f as their first
-use Rattle.std.specs.Prelude.{◌≡◌, ℕ, zero, suc, List, [], ◌∷◌, length, Some, None}
+use Rattle.std.specs.Prelude.{◌≡◌, ℕ, zero, suc, List, [], ◌∷◌, length, Option, Some, None}
 use Rattle.dt_tree.specs.declared.fault.ScriptFault.{ScriptFault}
 use Rattle.dt_tree.specs.declared.fault.ScriptFault.TheVariants.{Syntax}
 use Rattle.dt_tree.specs.declared.token.Place.{Place}

@@ -3,7 +3,7 @@
 --   symbol s          the symbol s in the grammar
 --   plain_token t     the token t in the grammar: an integer is Int, a text is Chr
 --   plain_tokens us   the tokens of a script without their places
-use Rattle.std.specs.Prelude.{true, false, List, map}
+use Rattle.std.specs.Prelude.{ℕ, true, false, List, map}
 use Rattle.dt_base.specs.declared.cell.Cell.TheVariants as cell
 use Rattle.dt_base.specs.declared.cell.ColType.TheVariants as ty
 use Rattle.dt_base.specs.declared.operators.Op.TheVariants.{Add, Sub, Mul, Div, Mod, Eq, Ne, Lt, Le, Gt, Ge, And, Or}

@@ -8,7 +8,7 @@
 --   second_of o        what stands at j
 --   stmt_of s          a statement
 --   script_of s        the statements of a script
-use Rattle.std.specs.Prelude.{List, [], ◌∷◌, Option, Some, None, map, option_map}
+use Rattle.std.specs.Prelude.{ℕ, List, [], ◌∷◌, Option, Some, None, map, option_map}
 use Rattle.dt_tree.specs.declared.tree.Expr.{Expr, fold-Expr}
 use Rattle.dt_tree.specs.declared.tree.Expr.TheOpen.{Expr-F, Second-F, Arg-F, Bracket-F, Tail-F}
 use Rattle.dt_tree.specs.declared.tree.Expr.TheOpen as layer
