@@ -2,6 +2,7 @@
 --   OneScript          tokens spell one script at most
 --   OneCodeScript      and so with the scripts that code holds
 --   EachIsSpelled      each script that the rules allow is spelled by some tokens
+--   EachIsAllowed      what tokens of a script spell, the rules allow
 --   EachIsAnswered     tokens spell a script or have a first fault
 --   OneFault           two faults of tokens are equal, and tokens of a right script have none
 --   MarksInStep        each mark of a script has its flag
@@ -28,6 +29,11 @@ OneCodeScript = (ts : List Token) (a b : Script) → IsScript ts (script_of a) �
 -- Each script that the rules allow is spelled by some tokens.
 abbrev pub EachIsSpelled : Type 0
 EachIsSpelled = (ss : List Stmt) → AreStmts ss → (us : List token_type.Token) × IsScript (map plain_token us) ss
+
+-- What tokens of a script spell, the rules allow: a chain has operators of one level, a query has
+-- one bracket or more and no query as its head, and so on.
+abbrev pub EachIsAllowed : Type 0
+EachIsAllowed = (us : List token_type.Token) (ss : List Stmt) → IsScript (map plain_token us) ss → AreStmts ss
 
 -- Each list of tokens spells a script, or has a first fault.
 abbrev pub EachIsAnswered : Type 0

@@ -1,4 +1,4 @@
-ghost use Rattle.dt_grammar.specs.Laws.{OneScript, OneCodeScript, EachIsSpelled, EachIsAnswered, OneFault, MarksInStep};
+ghost use Rattle.dt_grammar.specs.Laws.{OneScript, OneCodeScript, EachIsSpelled, EachIsAllowed, EachIsAnswered, OneFault, MarksInStep};
 
 /// Tokens spell one script at most.
 pub fn one_script()
@@ -13,6 +13,11 @@ pub fn one_code_script()
 /// Each script that the rules allow is spelled by some tokens.
 pub fn each_is_spelled()
     ensures { EachIsSpelled }
+{}
+
+/// What tokens of a script spell, the rules allow.
+pub fn each_is_allowed()
+    ensures { EachIsAllowed }
 {}
 
 /// Each list of tokens spells a script or has a first fault.
