@@ -3,6 +3,7 @@
 --   rows_in n lists        the first n rows of lists of cells that stand side by side
 --   HaveLength n lists     each list has n cells
 --   GridSeen               how many columns, and the rows
+--   AreInts vs             each is a vector of integers
 --   has_cells fields       each field has a cell
 --   Gains old cells new    each list has its cell of a row more
 use Rattle.std.specs.Prelude.{◌≡◌, ◌<◌, ◌++◌, ℕ, ℤ, Bool, List, [], ◌∷◌, Vec, All, map, length, slice_index_or}
@@ -11,7 +12,8 @@ use Rattle.std.specs.Option.{is_some}
 use Rattle.std.specs.List.{range_with_len, list_all}
 use Rattle.dt_base.specs.declared.cell.Cell.{Cell}
 use Rattle.dt_base.specs.declared.cell.Cell.TheVariants.{Na}
-use Rattle.dt_model.specs.Vector.{cell_at}
+use Rattle.dt_base.specs.declared.cell.ColType.TheVariants as ty
+use Rattle.dt_model.specs.Vector.{Vector, cell_at}
 use Rattle.na_vector.specs.Words.{int_cell}
 use Rattle.run_model.specs.IntegerFile.{field_cell}
 
@@ -31,6 +33,10 @@ HaveLength n lists = All (λ cells. length cells ≡ n) lists
 pub record GridSeen : Type 0 where
   pub width : ℕ
   pub rows : List (List Cell)
+
+-- each is a vector of integers
+abbrev pub AreInts : List Vector → Type 0
+AreInts vs = All (λ v. v.kind ≡ ty.Int) vs
 
 -- each field has a cell
 abbrev pub has_cells : List (List ℕ) → Bool

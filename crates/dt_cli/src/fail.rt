@@ -14,6 +14,8 @@ pub enum FileFail {
 }
 
 impl From<AllocError> for FileFail {
+    ghost use Rattle.dt_cli.specs.declared.fail.FileFail.TheVariants.{NoMemory};
+
     ghost from_gives = { λ e f. f ≡ NoMemory e };
 
     fn from(e: AllocError) -> FileFail {
@@ -23,6 +25,7 @@ impl From<AllocError> for FileFail {
 
 impl<T: Drop> From<AllocFailed<T>> for FileFail {
     ghost use Rattle.std.specs.Prelude.{alloc_error};
+    ghost use Rattle.dt_cli.specs.declared.fail.FileFail.TheVariants.{NoMemory};
 
     ghost from_gives = { λ _ f. f ≡ NoMemory alloc_error };
 

@@ -1,11 +1,10 @@
 //! A table of integers that is built row by row.
-ghost use Rattle.std.specs.Prelude.{◌≡◌, ◌+◌, ◌<◌, ◌++◌, ◌∷◌, [], OnOk, IfOk, IfErr, not, length, slice_index_or, slice_set, true, false, vec_len, option_map, ◌^◌, ◌≤◌, map, replicate};
+ghost use Rattle.std.specs.Prelude.{◌≡◌, ◌+◌, ◌<◌, ◌++◌, ◌∷◌, [], OnOk, IfOk, IfErr, not, length, slice_index_or, slice_set, true, false, vec_len, option_map, ◌^◌, ◌≤◌, map};
 ghost use Rattle.csv.specs.Records.{fields_of};
 ghost use Rattle.na_vector.specs.Words.{int_cell};
 ghost use Rattle.run_model.specs.IntegerFile.{field_cell, record_cells};
 ghost use Rattle.dt_cli.specs.Fails.{RefusedWhere};
-ghost use Rattle.dt_cli.specs.Grid.{cell_lists, has_cells, Gains};
-ghost use Rattle.dt_base.specs.declared.cell.ColType.TheVariants as ty;
+ghost use Rattle.dt_cli.specs.Grid.{cell_lists, has_cells, AreInts, Gains};
 ghost use Rattle.dt_model.specs.Table.{rows_of};
 ghost use Rattle.na_vector.specs.Frame.{vectors_of};
 
@@ -31,7 +30,7 @@ impl Model for Grid {
 
     ghost use Rattle.std.specs.Prelude.{length};
     ghost use Rattle.dt_cli.specs.Fails.{RefusedWhere};
-ghost use Rattle.dt_cli.specs.Grid.{cell_lists, rows_in, HaveLength};
+    ghost use Rattle.dt_cli.specs.Grid.{cell_lists, rows_in, HaveLength};
 
     ghost view = { λ g. record { width = length g.columns.items; rows = rows_in g.rows (cell_lists g.columns.items) } };
 
@@ -78,7 +77,8 @@ impl Grid {
     pub fn into_frame(self, alloc: Global) -> Result<Frame, AllocError>
         requires { length self.rows ≤ 16777216 }
         ensures rows { IfOk result (λ f. 0 < self.width → rows_of f.rows (vectors_of f.columns) ≡ self.rows) }
-        ensures kinds { IfOk result (λ f. map (λ v. v.kind) (vectors_of f.columns) ≡ replicate self.width ty.Int) }
+        ensures width { IfOk result (λ f. length (vectors_of f.columns) ≡ self.width) }
+        ensures integers { IfOk result (λ f. AreInts (vectors_of f.columns)) }
     {
         let Grid { columns, rows: _ } = self;
         let mut frame = Frame::new(alloc);

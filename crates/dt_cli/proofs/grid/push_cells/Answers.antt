@@ -1,5 +1,5 @@
 -- Each column has its field, or some field has no cell.
-use Rattle.std.proofs.Common.{rules, ◌≡◌, ◌<◌, ◌∙◌, sym, length, arith, ap, vec_len}
+use Rattle.std.proofs.Common.{rules, ◌≡◌, ◌<◌, ◌∙◌, sym, length, arith, ap, vec_len, set, get_or, ◌++◌, ◌∷◌, []}
 use Rattle.std.proofs.lemmas.List.{length-map}
 use Rattle.csv.specs.Records.{fields_of}
 use Rattle.na_vector.specs.Words.{int_cell}
@@ -12,8 +12,9 @@ loop-place-preserved c =
     let long : length c.args.columns.now.items ≡ vec_len c.args.columns.now = search rules in
     let same : length (cell_lists c.args.columns.now.items) ≡ length c.args.columns.now.items = length-map c.args.columns.now.items _ in
     let there : c.loop-place.place < length (cell_lists c.args.columns.now.items) = omega (arith, same, long, c.len-place-end.ensures, c.loop-place-test.true) in
+    let newer : cell_lists c.push_word.new.columns.items ≡ set (cell_lists c.loop-place.columns.items) c.loop-place.place (get_or (cell_lists c.loop-place.columns.items) c.loop-place.place [] ++ int_cell c.in-Some.word ∷ []) = search rules in
     filled_next c.loop-place.place (fields_of c.args.row.now) (cell_lists c.args.columns.now.items) (cell_lists c.loop-place.columns.items) (cell_lists c.push_word.new.columns.items) (int_cell c.in-Some.word)
-    c.loop-place.invariant there (c.requires ∙ sym long ∙ sym same) c.in-Some.ensures c.in_ok-push_word.ensures.cells
+    c.loop-place.invariant there (c.requires ∙ sym long ∙ sym same) c.in-Some.ensures newer
 
 pub returns-clause-gains : goal.returns-clause-gains
 returns-clause-gains c =

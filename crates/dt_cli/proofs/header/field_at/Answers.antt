@@ -1,0 +1,11 @@
+-- The field is there.
+use Rattle.std.proofs.Common.{sym}
+use Rattle.csv.specs.Records.{fields_of}
+use Rattle.csv.proofs.RecordFacts.{field-there, field-get}
+use Rattle.dt_cli.proofs.header.field_at.Goals as goal
+
+pub unreachable-requires : goal.unreachable-requires
+unreachable-requires c = field-there (fields_of c.args.row.now) c.args.place c.requires (sym c.in-None.ensures.value)
+
+pub returns : goal.returns
+returns c = sym (field-get (fields_of c.args.row.now) c.args.place c.in-Some.field.now (sym c.in-Some.ensures.value))
