@@ -1,8 +1,6 @@
 -- A tree that code holds is known from what it is seen as.
-use Rattle.std.proofs.Common.{◌≡◌, ℕ, ◌⊎◌, inl, inr, List, [], ◌∷◌, ◌++◌, Option, Some, None, map, option_map, refl, sym, ◌∙◌, ap, ap₂, subst, rules}
-use Rattle.dt_base.specs.declared.cell.Cell.{Cell}
-use Rattle.dt_base.specs.declared.cell.ColType.{ColType}
-use Rattle.dt_tree.specs.declared.tree.Expr.{Expr, the_lemmas, out-Expr, roll-Expr, roll-out-Expr}
+use Rattle.std.proofs.Common.{◌≡◌, ◌⊎◌, inl, inr, List, [], ◌∷◌, ◌++◌, Option, Some, None, option_map, refl, sym, ◌∙◌, ap, ap₂}
+use Rattle.dt_tree.specs.declared.tree.Expr.{Expr, out-Expr, roll-Expr, roll-out-Expr}
 use Rattle.dt_tree.specs.declared.tree.Expr.TheOpen.{Expr-F, Second-F, Bracket-F}
 use Rattle.dt_tree.specs.declared.tree.Expr.TheOpen as layer
 use Rattle.dt_tree.specs.declared.tree.Expr.TheVariants as code
@@ -11,15 +9,15 @@ use Rattle.dt_tree.specs.declared.tree.Arg.{Arg}
 use Rattle.dt_tree.specs.declared.tree.Bracket.{Bracket, out-Bracket, roll-Bracket, roll-out-Bracket}
 use Rattle.dt_tree.specs.declared.tree.Second.{Second, out-Second, roll-Second, roll-out-Second}
 use Rattle.dt_tree.specs.declared.tree.Second.TheVariants as second
-use Rattle.run_model.specs.GrammarTrees.{Word, Value, Typed, Null, Infinite, Not, Negate, Tree, Lit, Var, Paren, Unary, Chain, Call, Query, Formula, Tails, NoTails, MoreTails, Args, NoArgs, MoreArgs, Item, Absent, Given, Assigns, AssignsAll, Brackets, NoBrackets, MoreBrackets}
-use Rattle.run_model.specs.TreeView.{tails_from, args_from, brackets_from, tree_of, item_of_second, item_in, arg_of, bracket_of, tail_of, tails_of, args_of, brackets_of, first_of, second_of}
+use Rattle.run_model.specs.GrammarTrees.{Typed, Null, Infinite, Not, Negate, Tree, Lit, Var, Paren, Unary, Chain, Call, Query, Formula, Tails, NoTails, MoreTails, Args, NoArgs, MoreArgs, Item, Absent, Given, Assigns, AssignsAll, Brackets, NoBrackets, MoreBrackets}
+use Rattle.run_model.specs.TreeView.{tree_of, item_of_second, item_in, bracket_of, tails_of, args_of, brackets_of, first_of, second_of}
 use Rattle.dt_grammar.proofs.Trees.{tree_of-Lit, tree_of-Null, tree_of-Infinite, tree_of-Name, tree_of-Paren, tree_of-Minus, tree_of-Not, tree_of-Chain, tree_of-Call, tree_of-Query, tree_of-Formula, tails_of-push, args_of-push, brackets_of-push, bracket_of-roll, item_of_second-Value, item_of_second-Assign, item_of_second-AssignAll}
 
 -- one layer of a tree, and the tree that it is seen as
-abbrev Layer : Type 0
+abbrev pub Layer : Type 0
 Layer = Expr-F Expr Second Arg Bracket Tail
 
-abbrev seen_layer : Layer → Tree
+abbrev pub seen_layer : Layer → Tree
 seen_layer (layer.Lit c k) = Lit (Typed c k)
 seen_layer layer.Null = Lit Null
 seen_layer layer.Infinite = Lit Infinite
@@ -32,7 +30,7 @@ seen_layer (layer.Call x args) = Call x (args_of args)
 seen_layer (layer.Query t bs) = Query (tree_of t) (brackets_of bs)
 seen_layer (layer.Formula xs ys) = Formula xs ys
 
-tree_of-roll : (l : Layer) → tree_of (roll-Expr l) ≡ seen_layer l
+pub tree_of-roll : (l : Layer) → tree_of (roll-Expr l) ≡ seen_layer l
 tree_of-roll (layer.Lit c k) = ap tree_of (code.rolls-Lit c k) ∙ tree_of-Lit c k
 tree_of-roll layer.Null = ap tree_of code.rolls-Null ∙ tree_of-Null
 tree_of-roll layer.Infinite = ap tree_of code.rolls-Infinite ∙ tree_of-Infinite
@@ -45,15 +43,15 @@ tree_of-roll (layer.Call x args) = ap tree_of (code.rolls-Call x args) ∙ tree_
 tree_of-roll (layer.Query t bs) = ap tree_of (code.rolls-Query t bs) ∙ tree_of-Query t bs
 tree_of-roll (layer.Formula xs ys) = ap tree_of (code.rolls-Formula xs ys) ∙ tree_of-Formula xs ys
 
-abbrev SecondLayer : Type 0
+abbrev pub SecondLayer : Type 0
 SecondLayer = Second-F Expr Second Arg Bracket Tail
 
-abbrev seen_second : SecondLayer → Item
+abbrev pub seen_second : SecondLayer → Item
 seen_second (layer.Value t) = Given (tree_of t)
 seen_second (layer.Assign l r) = Assigns (tree_of l) (tree_of r)
 seen_second (layer.AssignAll args) = AssignsAll (args_of args)
 
-second-roll : (l : SecondLayer) → item_of_second (roll-Second l) ≡ seen_second l
+pub second-roll : (l : SecondLayer) → item_of_second (roll-Second l) ≡ seen_second l
 second-roll (layer.Value t) = ap item_of_second (second.rolls-Value t) ∙ item_of_second-Value t
 second-roll (layer.Assign l r) = ap item_of_second (second.rolls-Assign l r) ∙ item_of_second-Assign l r
 second-roll (layer.AssignAll args) = ap item_of_second (second.rolls-AssignAll args) ∙ item_of_second-AssignAll args
@@ -111,7 +109,7 @@ second_rolled : (o : Option Second) → option_map roll-Second (option_map out-S
 second_rolled None = refl
 second_rolled (Some s) = ap Some (roll-out-Second s)
 
-bracket_opened : (b : Bracket) → bracket_of b ≡ (let c = out-Bracket b in record { first = first_of c.first; second = second_of c.second; third = first_of c.third; args = args_of c.args })
+pub bracket_opened : (b : Bracket) → bracket_of b ≡ (let c = out-Bracket b in record { first = first_of c.first; second = second_of c.second; third = first_of c.third; args = args_of c.args })
 bracket_opened b = let c = out-Bracket b in ap bracket_of (sym (roll-out-Bracket b)) ∙ bracket_of-roll c.first c.second c.third c.args
 
 mutual

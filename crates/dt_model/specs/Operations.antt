@@ -44,32 +44,32 @@ pub data OpFault : Type 0 where
 
 -- ---- Types
 
--- numbers are logicals and integers
-abbrev pub is_number : ColType → Bool
-is_number ty.Chr = false
-is_number _ = true
+-- arithmetic takes logicals and integers, and gives integers
+abbrev pub arithmetic_type : ColType → ColType → Option ColType
+arithmetic_type ty.Chr _ = None
+arithmetic_type _ ty.Chr = None
+arithmetic_type _ _ = Some ty.Int
 
-abbrev pub is_logical : ColType → Bool
-is_logical ty.Lgl = true
-is_logical _ = false
+-- `&` and `|` take logicals and give logicals
+abbrev pub logic_type : ColType → ColType → Option ColType
+logic_type ty.Lgl ty.Lgl = Some ty.Lgl
+logic_type _ _ = None
 
--- Arithmetic takes numbers and gives integers. Comparisons take any two types and give logicals. `&`
--- and `|` take logicals.
+-- comparisons take any two types and give logicals
 abbrev pub op_type : Op → ColType → ColType → Option ColType
-op_type op.Eq _ _ = Some ty.Lgl
-op_type op.Ne _ _ = Some ty.Lgl
-op_type op.Lt _ _ = Some ty.Lgl
-op_type op.Le _ _ = Some ty.Lgl
-op_type op.Gt _ _ = Some ty.Lgl
-op_type op.Ge _ _ = Some ty.Lgl
-op_type op.And t u = if is_logical t && is_logical u then Some ty.Lgl else None
-op_type op.Or t u = if is_logical t && is_logical u then Some ty.Lgl else None
-op_type _ t u = if is_number t && is_number u then Some ty.Int else None
+op_type op.Add t u = arithmetic_type t u
+op_type op.Sub t u = arithmetic_type t u
+op_type op.Mul t u = arithmetic_type t u
+op_type op.Div t u = arithmetic_type t u
+op_type op.Mod t u = arithmetic_type t u
+op_type op.And t u = logic_type t u
+op_type op.Or t u = logic_type t u
+op_type _ _ _ = Some ty.Lgl
 
--- `-` takes numbers and gives integers, `!` takes logicals, and `is.na` takes any type
+-- `-` takes logicals and integers and gives integers, `!` takes logicals, `is.na` takes any type
 abbrev pub unary_type : UnOp → ColType → Option ColType
-unary_type un.Neg t = if is_number t then Some ty.Int else None
-unary_type un.Not t = if is_logical t then Some ty.Lgl else None
+unary_type un.Neg t = arithmetic_type t t
+unary_type un.Not t = logic_type t t
 unary_type un.IsNa _ = Some ty.Lgl
 
 -- ---- Arithmetic: on whole numbers without bounds
@@ -261,6 +261,10 @@ combined a b =
     let t = common a.kind b.kind in
     if nat_lt 16777216 (length a.cells + length b.cells) then Err TooManyRows
     else Ok (record { kind = t; cells = map (brought t) a.cells ++ map (brought t) b.cells })
+
+abbrev pub is_logical : ColType → Bool
+is_logical ty.Lgl = true
+is_logical _ = false
 
 -- the first where the test is TRUE, the second where it is FALSE, and NA where it is NA
 abbrev pub picked_by : Cell → Cell → Cell → Cell

@@ -10,21 +10,21 @@ use Rattle.dt_model.specs.Vector.{Vector, cell_at}
 use Rattle.dt_model.specs.Table.{ColumnHead, row_at, rows_of, column_of}
 use Rattle.na_vector.specs.Column.{Seen}
 use Rattle.run_model.specs.Printed.{characters, greatest, name_text, cell_text, shown, head_at, column_width}
-use Rattle.dt_print.specs.Framed.{heads_of, vectors_of}
+use Rattle.dt_print.specs.Framed.{frame_heads, vectors_of}
 use Rattle.dt_print.specs.Lines.{first_count, last_start, label_width_at, cell_width_at, width_in}
 use Rattle.dt_print.proofs.Spans.{shown-map, shown-range, greatest-append}
 
 -- the head of a column is its name and its type
-pub head_at-heads_of : (names : List (List ℕ)) (columns : List Seen) (c : ℕ) (name : List ℕ) (column : Seen)
+pub head_at-frame_heads : (names : List (List ℕ)) (columns : List Seen) (c : ℕ) (name : List ℕ) (column : Seen)
     → c < length names → name ≡ get_or names c name → slice_get columns c ≡ Some column
-    → head_at (heads_of names columns) c ≡ record { name = name; kind = column.vector.kind }
-head_at-heads_of [] columns c name column inside n k = absurd (omega arith)
-head_at-heads_of (m ∷ names) [] c name column inside n k = absurd (cc)
-head_at-heads_of (m ∷ names) (v ∷ columns) zero name column inside n k =
+    → head_at (frame_heads names columns) c ≡ record { name = name; kind = column.vector.kind }
+head_at-frame_heads [] columns c name column inside n k = absurd (omega arith)
+head_at-frame_heads (m ∷ names) [] c name column inside n k = absurd (cc)
+head_at-frame_heads (m ∷ names) (v ∷ columns) zero name column inside n k =
     let e : v ≡ column = cc in
     λ i. record { name = sym n i; kind = (e i).vector.kind }
-head_at-heads_of (m ∷ names) (v ∷ columns) (suc c) name column inside n k =
-    head_at-heads_of names columns c name column (omega arith) n k
+head_at-frame_heads (m ∷ names) (v ∷ columns) (suc c) name column inside n k =
+    head_at-frame_heads names columns c name column (omega arith) n k
 
 -- a row's cell in a column is the column's cell
 pub cell_at-row_at : (columns : List Seen) (p c : ℕ) (column : Seen) → slice_get columns c ≡ Some column
@@ -111,20 +111,20 @@ shown_width name v n first_end last_from of_name first last of_cells result is_n
 pub column_width-frame : (names : List (List ℕ)) (columns : List Seen) (n c : ℕ) (name : List ℕ) (column : Seen)
     → c < length names → name ≡ get_or names c name → slice_get columns c ≡ Some column
     → length column.vector.cells ≡ n
-    → column_width (heads_of names columns) (rows_of n (vectors_of columns)) c ≡ width_in name column.vector
+    → column_width (frame_heads names columns) (rows_of n (vectors_of columns)) c ≡ width_in name column.vector
 unfolding width_in
 column_width-frame names columns n c name column inside is_name is_column rows =
-    rw (head_at-heads_of names columns c name column inside is_name is_column, column_of-rows_of columns n c column is_column rows) refl
+    rw (head_at-frame_heads names columns c name column inside is_name is_column, column_of-rows_of columns n c column is_column rows) refl
 
 -- one column more
 pub column_widths_more : (names : List (List ℕ)) (columns : List Seen) (n c : ℕ) (name : List ℕ) (column : Seen)
     (so_far after : List ℕ) (width : ℕ)
     → c < length names → name ≡ get_or names c name → slice_get columns c ≡ Some column
     → length column.vector.cells ≡ n
-    → so_far ≡ map (column_width (heads_of names columns) (rows_of n (vectors_of columns))) (range_with_len 0 c)
+    → so_far ≡ map (column_width (frame_heads names columns) (rows_of n (vectors_of columns))) (range_with_len 0 c)
     → width ≡ width_in name column.vector → after ≡ so_far ++ width ∷ []
-    → after ≡ map (column_width (heads_of names columns) (rows_of n (vectors_of columns))) (range_with_len 0 (c + 1))
+    → after ≡ map (column_width (frame_heads names columns) (rows_of n (vectors_of columns))) (range_with_len 0 (c + 1))
 column_widths_more names columns n c name column so_far after width inside is_name is_column rows is_so_far is_width is_after =
     is_after
     ∙ (λ i. is_so_far i ++ (is_width ∙ sym (column_width-frame names columns n c name column inside is_name is_column rows)) i ∷ [])
-    ∙ sym (map-range_with_len_more (column_width (heads_of names columns) (rows_of n (vectors_of columns))) 0 c c (omega arith))
+    ∙ sym (map-range_with_len_more (column_width (frame_heads names columns) (rows_of n (vectors_of columns))) 0 c c (omega arith))

@@ -11,7 +11,7 @@ use Rattle.dt_model.specs.Vector.{cell_at}
 use Rattle.dt_model.specs.Table.{ColumnHead, row_at, rows_of}
 use Rattle.na_vector.specs.Column.{Seen}
 use Rattle.run_model.specs.Printed.{aligned, name_text, cell_text, head_at, label, label_width, column_width, header_line, row_line, lines_text, elided, null_table_text, empty_table_text, filled_table_text, printed_table}
-use Rattle.dt_print.specs.Framed.{heads_of, vectors_of}
+use Rattle.dt_print.specs.Framed.{frame_heads, vectors_of}
 use Rattle.dt_print.specs.Lines.{part, first_count, last_start, shown_count, text_at, frame_cell, names_part, cells_part, frame_line, dashes, empty_text}
 use Rattle.dt_print.proofs.Spans.{lines_text-elided, lines_text-map}
 
@@ -22,16 +22,16 @@ flat_map-range_same f g a zero m e h = refl
 flat_map-range_same f g a (suc n) m e h =
     λ i. e a (omega arith) i ++ flat_map-range_same f g (a + 1) n m e (omega arith) i
 
-pub length-heads_of : (names : List (List ℕ)) (columns : List Seen) → length names ≡ length columns
-    → length (heads_of names columns) ≡ length columns
-length-heads_of [] [] e = refl
-length-heads_of [] (v ∷ columns) e = absurd (omega arith)
-length-heads_of (n ∷ names) [] e = absurd (omega arith)
-length-heads_of (n ∷ names) (v ∷ columns) e = ap suc (length-heads_of names columns (omega arith))
+pub length-frame_heads : (names : List (List ℕ)) (columns : List Seen) → length names ≡ length columns
+    → length (frame_heads names columns) ≡ length columns
+length-frame_heads [] [] e = refl
+length-frame_heads [] (v ∷ columns) e = absurd (omega arith)
+length-frame_heads (n ∷ names) [] e = absurd (omega arith)
+length-frame_heads (n ∷ names) (v ∷ columns) e = ap suc (length-frame_heads names columns (omega arith))
 
 -- the name of a column
 pub name-head_at : (names : List (List ℕ)) (columns : List Seen) (c : ℕ) → length names ≡ length columns
-    → (head_at (heads_of names columns) c).name ≡ slice_index_or names c []
+    → (head_at (frame_heads names columns) c).name ≡ slice_index_or names c []
 name-head_at [] [] c e = refl
 name-head_at [] (v ∷ columns) c e = absurd (omega arith)
 name-head_at (n ∷ names) [] c e = absurd (omega arith)
@@ -40,7 +40,7 @@ name-head_at (n ∷ names) (v ∷ columns) (suc c) e = name-head_at names column
 
 -- the text of a row's cell in a column
 pub cell_text-frame : (names : List (List ℕ)) (columns : List Seen) (p c : ℕ) → length names ≡ length columns → c < length columns
-    → cell_text (head_at (heads_of names columns) c).kind (cell_at (row_at (vectors_of columns) p) c) ≡ text_at (slice_get columns c) p
+    → cell_text (head_at (frame_heads names columns) c).kind (cell_at (row_at (vectors_of columns) p) c) ≡ text_at (slice_get columns c) p
 cell_text-frame [] [] p c e h = absurd (omega arith)
 cell_text-frame [] (v ∷ columns) p c e h = absurd (omega arith)
 cell_text-frame (n ∷ names) [] p c e h = absurd (omega arith)
@@ -82,25 +82,25 @@ empty_put names count t0 t1 t2 t3 t4 e0 is_count e1 e2 e3 e4 =
     e4 ∙ (λ i. (e3 ∙ (λ j. (e2 ∙ (λ k. (e1 ∙ (λ l. e0 l ++ decimal (is_count l))) k ++ codes " cols): ")) j
     ++ join_with_byte 44 (map name_text names))) i ++ codes "\n")
 
-names-heads_of : (names : List (List ℕ)) (columns : List Seen) → length names ≡ length columns
-    → map (λ h. name_text h.name) (heads_of names columns) ≡ map name_text names
-names-heads_of [] [] e = refl
-names-heads_of [] (v ∷ columns) e = absurd (omega arith)
-names-heads_of (n ∷ names) [] e = absurd (omega arith)
-names-heads_of (n ∷ names) (v ∷ columns) e = ap (λ r. name_text n ∷ r) (names-heads_of names columns (omega arith))
+names-frame_heads : (names : List (List ℕ)) (columns : List Seen) → length names ≡ length columns
+    → map (λ h. name_text h.name) (frame_heads names columns) ≡ map name_text names
+names-frame_heads [] [] e = refl
+names-frame_heads [] (v ∷ columns) e = absurd (omega arith)
+names-frame_heads (n ∷ names) [] e = absurd (omega arith)
+names-frame_heads (n ∷ names) (v ∷ columns) e = ap (λ r. name_text n ∷ r) (names-frame_heads names columns (omega arith))
 
 pub printed-empty : (names : List (List ℕ)) (columns : List Seen) → length names ≡ length columns → 0 < length columns
-    → printed_table (heads_of names columns) [] ≡ empty_text names
+    → printed_table (frame_heads names columns) [] ≡ empty_text names
 unfolding empty_text
 printed-empty [] [] e h = absurd (omega arith)
 printed-empty [] (v ∷ columns) e h = absurd (omega arith)
 printed-empty (n ∷ names) [] e h = absurd (omega arith)
 printed-empty (n ∷ names) (v ∷ columns) e h =
-    λ i. codes "Empty data.table (0 rows and " ++ decimal ((length-heads_of (n ∷ names) (v ∷ columns) e ∙ sym e) i) ++ codes " cols): "
-    ++ join_with_byte 44 (names-heads_of (n ∷ names) (v ∷ columns) e i) ++ codes "\n"
+    λ i. codes "Empty data.table (0 rows and " ++ decimal ((length-frame_heads (n ∷ names) (v ∷ columns) e ∙ sym e) i) ++ codes " cols): "
+    ++ join_with_byte 44 (names-frame_heads (n ∷ names) (v ∷ columns) e i) ++ codes "\n"
 
 pub printed-filled : (names : List (List ℕ)) (columns : List Seen) (n : ℕ) → length names ≡ length columns → 0 < length columns → 0 < n
-    → printed_table (heads_of names columns) (rows_of n (vectors_of columns)) ≡ filled_table_text (heads_of names columns) (rows_of n (vectors_of columns))
+    → printed_table (frame_heads names columns) (rows_of n (vectors_of columns)) ≡ filled_table_text (frame_heads names columns) (rows_of n (vectors_of columns))
 printed-filled [] [] n e h k = absurd (omega arith)
 printed-filled [] (v ∷ columns) n e h k = absurd (omega arith)
 printed-filled (m ∷ names) [] n e h k = absurd (omega arith)
@@ -110,30 +110,30 @@ printed-filled (m ∷ names) (v ∷ columns) (suc n) e h k = refl
 module _ (names : List (List ℕ)) (columns : List Seen) (n : ℕ) (widths : List ℕ) (label_is : ℕ)
     (same : length names ≡ length columns)
     (is_label : label_is ≡ label_width n)
-    (is_widths : widths ≡ map (column_width (heads_of names columns) (rows_of n (vectors_of columns))) (range_with_len 0 (length columns)))
+    (is_widths : widths ≡ map (column_width (frame_heads names columns) (rows_of n (vectors_of columns))) (range_with_len 0 (length columns)))
   where
     heads : List ColumnHead
-    heads = heads_of names columns
+    heads = frame_heads names columns
 
     rows : List (List Cell)
     rows = rows_of n (vectors_of columns)
 
-    width_is : (c : ℕ) → c < length columns → column_width (heads_of names columns) (rows_of n (vectors_of columns)) c ≡ slice_index widths c
+    width_is : (c : ℕ) → c < length columns → column_width (frame_heads names columns) (rows_of n (vectors_of columns)) c ≡ slice_index widths c
     width_is c h =
         sym (ap (λ ws. slice_index ws c) is_widths
-        ∙ get_or-map-range_with_len (column_width (heads_of names columns) (rows_of n (vectors_of columns))) 0 (length columns) c c 0 h (omega arith))
+        ∙ get_or-map-range_with_len (column_width (frame_heads names columns) (rows_of n (vectors_of columns))) 0 (length columns) c c 0 h (omega arith))
 
     rows_count : length (rows_of n (vectors_of columns)) ≡ n
     rows_count = length-map-range_with_len (row_at (vectors_of columns)) 0 n
 
     -- the header
-    pub header-frame : header_line (heads_of names columns) (rows_of n (vectors_of columns)) ≡ replicate label_is 32 ++ names_part widths names (length names)
+    pub header-frame : header_line (frame_heads names columns) (rows_of n (vectors_of columns)) ≡ replicate label_is 32 ++ names_part widths names (length names)
     unfolding header_line names_part
     header-frame =
-        rw (length-heads_of names columns same, rows_count)
+        rw (length-frame_heads names columns same, rows_count)
         (λ i. replicate (sym is_label i) 32 ++
         (flat_map-range_same
-        (λ c. part (column_width (heads_of names columns) (rows_of n (vectors_of columns)) c) (name_text (head_at (heads_of names columns) c).name))
+        (λ c. part (column_width (frame_heads names columns) (rows_of n (vectors_of columns)) c) (name_text (head_at (frame_heads names columns) c).name))
         (λ c. part (slice_index widths c) (name_text (slice_index_or names c [])))
         0 (length columns) (length columns)
         (λ c h j. part (width_is c h j) (name_text (name-head_at names columns c same j)))
@@ -142,33 +142,33 @@ module _ (names : List (List ℕ)) (columns : List Seen) (n : ℕ) (widths : Lis
 
     -- the line of a row
     pub row-frame : (p : ℕ) → p < n
-        → row_line (heads_of names columns) (rows_of n (vectors_of columns)) p ++ codes "\n" ≡ frame_line label_is widths columns p
+        → row_line (frame_heads names columns) (rows_of n (vectors_of columns)) p ++ codes "\n" ≡ frame_line label_is widths columns p
     unfolding row_line frame_line cells_part frame_cell
     row-frame p below =
-        rw (length-heads_of names columns same, rows_count, row-rows_of columns n p below)
+        rw (length-frame_heads names columns same, rows_count, row-rows_of columns n p below)
         (λ i. (aligned (sym is_label i) (label (p + 1)) ++
         flat_map-range_same
-        (λ c. part (column_width (heads_of names columns) (rows_of n (vectors_of columns)) c)
-        (cell_text (head_at (heads_of names columns) c).kind (cell_at (row_at (vectors_of columns) p) c)))
+        (λ c. part (column_width (frame_heads names columns) (rows_of n (vectors_of columns)) c)
+        (cell_text (head_at (frame_heads names columns) c).kind (cell_at (row_at (vectors_of columns) p) c)))
         (λ c. part (slice_index widths c) (text_at (slice_get columns c) p))
         0 (length columns) (length columns)
         (λ c h j. part (width_is c h j) (cell_text-frame names columns p c same h j))
         (omega arith) i) ++ codes "\n")
 
     -- a table with rows
-    pub filled-frame : filled_table_text (heads_of names columns) (rows_of n (vectors_of columns))
+    pub filled-frame : filled_table_text (frame_heads names columns) (rows_of n (vectors_of columns))
         ≡ (replicate label_is 32 ++ names_part widths names (length names) ++ codes "\n")
         ++ flat_map (frame_line label_is widths columns) (range_with_len 0 (first_count n))
         ++ dashes n
         ++ flat_map (frame_line label_is widths columns) (range_with_len (last_start n) (n - last_start n))
     unfolding filled_table_text
     filled-frame =
-        let f : ℕ → List ℕ = row_line (heads_of names columns) (rows_of n (vectors_of columns)) in
+        let f : ℕ → List ℕ = row_line (frame_heads names columns) (rows_of n (vectors_of columns)) in
         let g : ℕ → List ℕ = frame_line label_is widths columns in
         let head : List ℕ = replicate label_is 32 ++ names_part widths names (length names) ++ codes "\n" in
         let first : List ℕ = flat_map g (range_with_len 0 (first_count n)) in
         let last : List ℕ = flat_map g (range_with_len (last_start n) (n - last_start n)) in
-        ap (λ k. (header_line (heads_of names columns) (rows_of n (vectors_of columns)) ++ codes "\n") ++ lines_text (elided (map f (range_with_len 0 k)))) rows_count
+        ap (λ k. (header_line (frame_heads names columns) (rows_of n (vectors_of columns)) ++ codes "\n") ++ lines_text (elided (map f (range_with_len 0 k)))) rows_count
         ∙ (λ i. (header-frame i ++ codes "\n") ++ lines_text-elided f n i)
         ∙ (λ i. head ++ ((lines_text-map f (range_with_len 0 (first_count n)) ∙ flat_map-range_same (λ p. f p ++ codes "\n") g 0 (first_count n) n row-frame (first_within n)) i
         ++ dashes n
@@ -182,7 +182,7 @@ module _ (names : List (List ℕ)) (columns : List Seen) (n : ℕ) (widths : Lis
         → first_end ≡ first_count n → t2 ≡ t1 ++ flat_map (frame_line label_is widths columns) (range_with_len 0 (first_end - 0))
         → t3 ≡ t2 ++ dashes n
         → last_from ≡ last_start n → t4 ≡ t3 ++ flat_map (frame_line label_is widths columns) (range_with_len last_from (n - last_from))
-        → t4 ≡ filled_table_text (heads_of names columns) (rows_of n (vectors_of columns))
+        → t4 ≡ filled_table_text (frame_heads names columns) (rows_of n (vectors_of columns))
     filled_put first_end last_from t0 t1 t2 t3 t4 e0 e1 is_end e2 e3 is_from e4 =
         let g : ℕ → List ℕ = frame_line label_is widths columns in
         e4 ∙ (λ i. (e3 ∙ (λ j. (e2 ∙ (λ k. (e1 ∙ (λ l. e0 l ++ (replicate label_is 32 ++ names_part widths names (length names) ++ codes "\n"))) k
@@ -193,3 +193,19 @@ module _ (names : List (List ℕ)) (columns : List Seen) (n : ℕ) (widths : Lis
         ++ flat_map g (range_with_len 0 (is_end i)) ++ dashes n
         ++ flat_map g (range_with_len (last_start n) (n - last_start n)))
         ∙ sym filled-frame
+
+-- the same, where the number of rows is told by an equation
+pub filled_from : (names : List (List ℕ)) (columns : List Seen) (n m : ℕ) (widths : List ℕ) (label_is first_end last_from : ℕ)
+    (t0 t1 t2 t3 t4 : List ℕ)
+    → length names ≡ length columns → m ≡ n → label_is ≡ label_width m
+    → widths ≡ map (column_width (frame_heads names columns) (rows_of n (vectors_of columns))) (range_with_len 0 (length columns))
+    → t0 ≡ []
+    → t1 ≡ t0 ++ (replicate label_is 32 ++ names_part widths names (length names) ++ codes "\n")
+    → first_end ≡ first_count m → t2 ≡ t1 ++ flat_map (frame_line label_is widths columns) (range_with_len 0 (first_end - 0))
+    → t3 ≡ t2 ++ dashes m
+    → last_from ≡ last_start m → t4 ≡ t3 ++ flat_map (frame_line label_is widths columns) (range_with_len last_from (m - last_from))
+    → t4 ≡ filled_table_text (frame_heads names columns) (rows_of n (vectors_of columns))
+filled_from names columns n m widths label_is first_end last_from t0 t1 t2 t3 t4 same is_m is_label is_widths e0 e1 is_end e2 e3 is_from e4 =
+    filled_put names columns n widths label_is same (is_label ∙ ap label_width is_m) is_widths first_end last_from t0 t1 t2 t3 t4 e0 e1
+    (is_end ∙ ap first_count is_m) e2 (e3 ∙ ap (λ k. t2 ++ dashes k) is_m) (is_from ∙ ap last_start is_m)
+    (e4 ∙ ap (λ k. t3 ++ flat_map (frame_line label_is widths columns) (range_with_len last_from (k - last_from))) is_m)

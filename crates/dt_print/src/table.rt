@@ -2,7 +2,7 @@
 ghost use Rattle.std.specs.Prelude.{◌≡◌, ◌+◌, ◌*◌, ◌<◌, ◌++◌, ◌∷◌, OnOk, IfOk, length, map, codes, decimal};
 ghost use Rattle.std.specs.List.{flat_map, join_with_byte};
 ghost use Rattle.run_model.specs.Printed.{name_text, null_table_text, filled_table_text, printed_table};
-ghost use Rattle.dt_print.specs.Framed.{heads_of, frame_rows};
+ghost use Rattle.dt_print.specs.Framed.{frame_heads, frame_rows};
 ghost use Rattle.dt_print.specs.Lines.{shown_count, empty_text};
 
 use crate::cells::{push_name, push_number};
@@ -64,7 +64,7 @@ fn filled_table<L: Ledger>(
     steps: &mut Steps<L>,
 ) -> Result<Vec<u8>, AllocError>
     requires { length names.now ≡ length frame.now.columns }
-    ensures text { IfOk result (λ v. v.items ≡ filled_table_text (heads_of names.now frame.now.columns) (frame_rows frame.now)) }
+    ensures text { IfOk result (λ v. v.items ≡ filled_table_text (frame_heads names.now frame.now.columns) (frame_rows frame.now)) }
     ensures touches { OnOk result (steps.new ≡ steps.old + 2 * (length frame.now.columns * shown_count frame.now.rows)) }
 {
     let rows = frame.rows();
@@ -95,7 +95,7 @@ pub fn frame_text<L: Ledger>(
     steps: &mut Steps<L>,
 ) -> Result<Vec<u8>, AllocError>
     requires { length names.now ≡ length frame.now.columns }
-    ensures text { IfOk result (λ v. v.items ≡ printed_table (heads_of names.now frame.now.columns) (frame_rows frame.now)) }
+    ensures text { IfOk result (λ v. v.items ≡ printed_table (frame_heads names.now frame.now.columns) (frame_rows frame.now)) }
     ensures touches { OnOk result (steps.new ≡ steps.old + 2 * (length frame.now.columns * shown_count frame.now.rows)) }
 {
     if frame.width() == 0 {

@@ -3,7 +3,7 @@ ghost use Rattle.std.specs.Prelude.{◌≡◌, ◌+◌, ◌-◌, ◌*◌, ◌<�
 ghost use Rattle.std.specs.List.{range_with_len};
 ghost use Rattle.run_model.specs.Printed as printed;
 ghost use Rattle.run_model.specs.Printed.{greatest};
-ghost use Rattle.dt_print.specs.Framed.{heads_of, frame_rows};
+ghost use Rattle.dt_print.specs.Framed.{frame_heads, frame_rows};
 ghost use Rattle.dt_print.specs.Lines.{first_count, last_start, shown_count, label_width_at, cell_width_at, width_in};
 
 use crate::page::Page;
@@ -107,7 +107,7 @@ pub fn column_widths<L: Ledger>(
     steps: &mut Steps<L>,
 ) -> Result<Vec<usize>, AllocError>
     requires { length names.now ≡ length frame.now.columns }
-    ensures widths { IfOk result (λ v. v.items ≡ map (printed.column_width (heads_of names.now frame.now.columns) (frame_rows frame.now)) (range_with_len 0 (length frame.now.columns))) }
+    ensures widths { IfOk result (λ v. v.items ≡ map (printed.column_width (frame_heads names.now frame.now.columns) (frame_rows frame.now)) (range_with_len 0 (length frame.now.columns))) }
     ensures same { page.new.text.items ≡ page.old.text.items }
     ensures touches { OnOk result (steps.new ≡ steps.old + length frame.now.columns * shown_count frame.now.rows) }
 {

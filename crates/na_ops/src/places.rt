@@ -1,11 +1,12 @@
-ghost use Rattle.std.specs.Prelude.{◌≡◌, ◌<◌, ◌==◌, ◌++◌, ◌∷◌, [], length, map, All, OnOk, IfOk, IfErr, IfSome, if◌then◌else◌};
+ghost use Rattle.std.specs.Prelude.{◌≡◌, ◌<◌, ◌≤◌, ◌==◌, ◌++◌, ◌∷◌, [], length, map, All, Some, OnOk, IfOk, IfErr, IfSome, if◌then◌else◌};
 ghost use Rattle.dt_base.specs.declared.cell.Cell.{Cell};
-ghost use Rattle.dt_model.specs.Operations.{Outcome, at_place, at_places, settled};
-ghost use Rattle.na_ops.specs.Answers.{Answers, IsNoMemory};
+ghost use Rattle.dt_model.specs.Operations.{Outcome, at_place, at_places, settled, joint, over_cells, typed};
+ghost use Rattle.na_ops.specs.Answers.{Answers, IsNoMemory, vector_of};
 ghost use Rattle.na_ops.specs.Words.{IsWord, Serves};
 
 use crate::OpFail;
-use crate::words::Word;
+use crate::words::{Target, Word};
+use na_vector::Column;
 use std::alloc::{AllocError, Global};
 
 /// An operation on words of two types.
@@ -67,4 +68,62 @@ pub fn fill<A: Word, B: Word, W: Word + Drop, K: Kernel<A, B, W>>(
         add(&mut out, w)?;
     }
     Ok(out)
+}
+
+/// The length of the result for two lengths, if they go together.
+fn joint(n: usize, m: usize) -> Option<usize>
+    ensures { result ≡ joint n m }
+{
+    if n == m {
+        Some(n)
+    } else if n == 1 {
+        Some(m)
+    } else if m == 1 {
+        Some(n)
+    } else {
+        None
+    }
+}
+
+/// The words of all places of two columns.
+fn words_over<A: Word, B: Word, W: Word + Drop, K: Kernel<A, B, W>>(
+    alloc: Global,
+    a: &[A],
+    b: &[B],
+) -> Result<Vec<W>, OpFail>
+    requires left { length a.now ≤ 16777216 }
+    requires right { length b.now ≤ 16777216 }
+    ensures fine { IfOk result (λ v. All W.fine v.items) }
+    ensures short { IfOk result (λ v. length v.items ≤ 16777216) }
+    ensures value { Answers (λ v. map W.cell v.items)
+        (over_cells K.table (map A.cell a.now) (map B.cell b.now)) result }
+{
+    let Some(n) = joint(a.len(), b.len()) else {
+        return Err(OpFail::Length {
+            left: a.len(),
+            right: b.len(),
+        });
+    };
+    fill::<A, B, W, K>(alloc, a, b, n)
+}
+
+/// An operation on two columns that its types suit.
+#[tactic(auto, using(crate::proofs::Answered::refused_typed))]
+pub fn over<A: Word, B: Word, W: Target + Drop, K: Kernel<A, B, W>>(
+    alloc: Global,
+    a: &[A],
+    b: &[B],
+) -> Result<Column, OpFail>
+    requires left { length a.now ≤ 16777216 }
+    requires right { length b.now ≤ 16777216 }
+    ensures { Answers vector_of
+        (typed (Some W.kind) (over_cells K.table (map A.cell a.now) (map B.cell b.now))) result }
+{
+    match words_over::<A, B, W, K>(alloc, a, b) {
+        Ok(words) => match W::column(words) {
+            Ok(column) => Ok(column),
+            Err(e) => Err(OpFail::NoMemory(e)),
+        },
+        Err(fail) => Err(fail),
+    }
 }
