@@ -17,3 +17,6 @@ mod places;
 pub use binding::bind;
 pub use fail::{EvalFail, stop};
 pub use places::{next, place};
+
+#[cfg(test)]
+mod tests;

@@ -52,23 +52,23 @@ step_settles cfg st.InComment c = either (c == 10) (st.StartRecord, act.Skip) (s
 step_settles cfg st.AfterCr c = either (c == 10) (st.StartRecord, act.Skip) (start_record cfg c) (λ e. no e) (start_settles cfg c)
 
 -- what holds of the record that a choice gives
-pick : (b : Bool) (x y : Option Read) (P : Read → Type 0) → (b ≡ true → (p : Read) → x ≡ Some p → P p) → (b ≡ false → (p : Read) → y ≡ Some p → P p) → (p : Read) → (if b then x else y) ≡ Some p → P p
+pub pick : (b : Bool) (x y : Option Read) (P : Read → Type 0) → (b ≡ true → (p : Read) → x ≡ Some p → P p) → (b ≡ false → (p : Read) → y ≡ Some p → P p) → (p : Read) → (if b then x else y) ≡ Some p → P p
 pick true x y P hx hy = hx refl
 pick false x y P hx hy = hy refl
 
-some_is : {A : Type 0} (x y : A) → Some x ≡ Some y → x ≡ y
+pub some_is : {A : Type 0} (x y : A) → Some x ≡ Some y → x ≡ y
 some_is x y e = ap (λ o. option_map_or (λ v. v) o x) e
 
-none_is : {A : Type 0} {B : Type 0} (x : A) → None ≡ Some x → B
+pub none_is : {A : Type 0} {B : Type 0} (x : A) → None ≡ Some x → B
 none_is x e = absurd (true≢false (sym (ap (λ o. option_map_or (λ _. true) o false) e)))
 
-abbrev last_read : List (List ℕ) → List ℕ → Read
+abbrev pub last_read : List (List ℕ) → List ℕ → Read
 last_read fields field = (fields ++ (field ∷ []), st.StartRecord, [])
 
-abbrev this_read : Config → State → ℕ → List (List ℕ) → List ℕ → List ℕ → Read
+abbrev pub this_read : Config → State → ℕ → List (List ℕ) → List ℕ → List ℕ → Read
 this_read cfg s c fields field rest = (fields_after (step cfg s c).1 fields field, (step cfg s c).0, rest)
 
-abbrev later_read : Config → State → ℕ → List (List ℕ) → List ℕ → List ℕ → Option Read
+abbrev pub later_read : Config → State → ℕ → List (List ℕ) → List ℕ → List ℕ → Option Read
 later_read cfg s c fields field rest = next_record cfg (step cfg s c).0 (fields_after (step cfg s c).1 fields field) (field_after (step cfg s c).1 c field) rest
 
 pub read_settles : (cfg : Config) (xs : List ℕ) (s : State) (fields : List (List ℕ)) (field : List ℕ) (p : Read) → next_record cfg s fields field xs ≡ Some p → ends_at_end p.1 ≡ false

@@ -1,5 +1,6 @@
 ghost use Rattle.std.specs.Prelude.{◌≡◌, ◌+◌, ◌<◌, ◌≤◌, ◌++◌, ◌∷◌, ℕ, [], None, IfOk, OnOk, IfErr, length, vec_len, slice_index_or, map};
 ghost use Rattle.csv.specs.Records.{Row, fields_of};
+ghost use Rattle.csv_edge.specs.Columns.{Gathered};
 ghost use Rattle.csv_edge.specs.Faults.{Tells};
 ghost use Rattle.csv_edge.specs.Left.{left, IsOpen};
 ghost use Rattle.run_model.specs.Csv.{rows_fault, fields_at};
@@ -10,8 +11,26 @@ use crate::records::next_record;
 use csv::{ByteRecord, Reader, StringRecord};
 use std::alloc::{AllocError, Global};
 
+/// The columns of all records that are left, so many as the header has fields, or the first fault of
+/// these records, in their order.
+pub(crate) fn gather_columns(
+    alloc: Global,
+    rdr: &mut Reader<&[u8]>,
+    width: usize,
+) -> Result<Vec<StringRecord>, CsvFail>
+    requires { IsOpen rdr.old }
+    ensures right { OnOk result (rows_fault width 0 (left rdr.old) ≡ None) }
+    ensures count { IfOk result (λ columns. length columns.items ≡ width) }
+    ensures fields { IfOk result (λ columns. Gathered columns.items (left rdr.old)) }
+    ensures refused { IfErr result (λ e. Tells e (rows_fault width 0 (left rdr.old))) }
+{
+    let mut columns = empty_columns(alloc, width)?;
+    read_rows(alloc, rdr, &mut columns)?;
+    Ok(columns)
+}
+
 /// So many columns without fields.
-pub(crate) fn empty_columns(alloc: Global, width: usize) -> Result<Vec<StringRecord>, AllocError>
+fn empty_columns(alloc: Global, width: usize) -> Result<Vec<StringRecord>, AllocError>
     ensures count { IfOk result (λ columns. vec_len columns ≡ width) }
     ensures empty { IfOk result (λ columns. (c : ℕ) (d : Row) → c < width → fields_of (slice_index_or columns.items c d) ≡ []) }
 {
@@ -48,7 +67,7 @@ fn push_row(columns: &mut [StringRecord], row: &StringRecord) -> Result<(), Allo
 
 /// Adds the fields of all records that are left to the columns, or tells the first fault of these
 /// records, in their order. After a refusal the columns hold some of the fields.
-pub(crate) fn read_rows(
+fn read_rows(
     alloc: Global,
     rdr: &mut Reader<&[u8]>,
     columns: &mut [StringRecord],

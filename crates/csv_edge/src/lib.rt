@@ -14,7 +14,12 @@
 mod check;
 mod columns;
 mod fail;
+mod frame;
+mod names;
+mod read;
 mod records;
+mod table;
 mod typed;
 
 pub use fail::CsvFail;
+pub use read::read_table;

@@ -1,13 +1,13 @@
 -- What the grammar spells, the machine reads.
-use Rattle.std.proofs.Common.{◌≡◌, ◌≢◌, ℕ, zero, suc, ◌≤◌, ◌<◌, ◌⊎◌, inl, inr, Bool, true, false, cond, List, [], ◌∷◌, ◌++◌, Option, Some, None, IfSome, option_and_then, option_map, refl, sym, ◌∙◌, ap, ap₂, subst, arith, append_assoc, append-nil, leb, le-leb, leb-true, leb-false, nat_le, ◌==◌, eqb-true, eq-eqb, ne_eqb}
+use Rattle.std.proofs.Common.{◌≡◌, ℕ, suc, ◌≤◌, Bool, true, false, cond, List, [], ◌∷◌, ◌++◌, Option, Some, None, option_and_then, option_map, refl, sym, ◌∙◌, ap, ap₂, subst, arith, append_assoc, le-leb, leb-true, nat_le, ◌==◌, eq-eqb, ne_eqb}
 use Rattle.std.proofs.lemmas.Bool.{lt-leb}
-use Rattle.dt_base.specs.declared.operators.Op.TheVariants.{Add, Sub, Mul, Div, Mod, Eq, Ne, Lt, Le, Gt, Ge, And, Or}
+use Rattle.dt_base.specs.declared.operators.Op.TheVariants.{Add}
 use Rattle.dt_tree.specs.declared.tree.BinOp.{BinOp}
-use Rattle.dt_tree.specs.declared.tree.BinOp.TheVariants.{Arith, In, Range}
-use Rattle.run_model.specs.GrammarTrees.{Word, Value, Prefix, Not, Negate, Token, Name, Literal, Operator, Bang, Tilde, Assign, Arrow, Is, Open, Shut, OpenSquare, ShutSquare, Comma, Break, Tree, Lit, Var, Paren, Unary, Chain, Tails, NoTails, MoreTails, Call, Query, Formula, Args, NoArgs, MoreArgs, Item, Absent, Given, Assigns, AssignsAll, Brackets, NoBrackets, MoreBrackets, Stmt}
-use Rattle.run_model.specs.Grammar.{level, is_single, prefix_level, prefix_token, post, prim, Filled, Nothing, UpToI, UpToJ, UpToBy, takes_unnamed, is_j, with_item, with_name, with_bracket, item_of, IsTarget, without, named, IsLeft, plain, arrow, IsNames, name, names, IsExpr, higher, chain, unary, literal, var, paren, call, bracket, IsTails, one, again, IsHead, bare, behind, IsArg, expr, formula, IsArgs, none, some, IsBefore, first, later, IsItem, empty, value, assigns, IsItems, unnamed, with, IsFilled, begin, comma as a_comma, IsLines, start, blank, line, IsScript, ended, open_end}
-use Rattle.dt_grammar.proofs.Sound.{by_test, demand_low, tails_low, is_query}
-use Rattle.dt_grammar.specs.Machine.{Head, head_of, query, Frame, Front, Left, InParen, InCall, InItem, InNamed, InAssign, InStmt, State, Want, Have, NeedName, NeedIs, NeedWord, HaveWords, demand, close, front, begin_chain, extend_chain, infix_op, tail_names, item_from, next_item, shut_none, shut_square_none, comma_none, break_none, shut, item, shut_square, comma_item, comma, break, assign, names_of, tilde, opens, name_top, naming, arrow_top, step, run, init, last_stmt, finish, parsed}
+use Rattle.dt_tree.specs.declared.tree.BinOp.TheVariants.{Arith}
+use Rattle.run_model.specs.GrammarTrees.{Word, Prefix, Not, Negate, Token, Name, Literal, Operator, Tilde, Assign, Is, Open, Shut, OpenSquare, ShutSquare, Comma, Break, Tree, Lit, Var, Paren, Unary, Chain, Tails, NoTails, MoreTails, Call, Query, Formula, Args, NoArgs, MoreArgs, Item, Absent, Assigns, Brackets, NoBrackets, Stmt}
+use Rattle.run_model.specs.Grammar.{level, is_single, prefix_level, prefix_token, post, prim, Filled, Nothing, UpToI, UpToJ, UpToBy, takes_unnamed, is_j, with_item, with_name, item_of, IsTarget, without, named, IsLeft, plain, arrow, IsNames, name, names, IsExpr, higher, chain, unary, literal, var, paren, call, bracket, IsTails, one, again, IsHead, bare, behind, IsArg, expr, formula, IsArgs, none, some, IsBefore, first, later, IsItem, empty, value, assigns, IsItems, unnamed, with, IsFilled, begin, comma as a_comma, IsLines, start, blank, line, IsScript, ended, open_end}
+use Rattle.dt_grammar.proofs.Sound.{by_test, demand_low}
+use Rattle.dt_grammar.specs.Machine.{Head, head_of, query, Frame, Front, Left, InParen, InCall, InItem, InNamed, InAssign, InStmt, State, Want, Have, NeedWord, HaveWords, demand, close, front, begin_chain, extend_chain, infix_op, tail_names, item_from, next_item, shut, item, shut_square, comma, break, assign, names_of, tilde, step, run, init, last_stmt, finish, parsed}
 
 -- Runs in a row.
 pub run_cons : (s : State) (x : Token) (xs : List Token) (mid : State) (end : Option State) → step s x ≡ Some mid → run mid xs ≡ end → run s (x ∷ xs) ≡ end

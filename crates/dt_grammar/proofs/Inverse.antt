@@ -1,8 +1,6 @@
 -- A tree that code holds is known from what it is seen as.
-use Rattle.std.proofs.Common.{◌≡◌, ℕ, ◌⊎◌, inl, inr, List, [], ◌∷◌, ◌++◌, Option, Some, None, map, option_map, refl, sym, ◌∙◌, ap, ap₂, subst, rules}
-use Rattle.dt_base.specs.declared.cell.Cell.{Cell}
-use Rattle.dt_base.specs.declared.cell.ColType.{ColType}
-use Rattle.dt_tree.specs.declared.tree.Expr.{Expr, the_lemmas, out-Expr, roll-Expr, roll-out-Expr}
+use Rattle.std.proofs.Common.{◌≡◌, ◌⊎◌, inl, inr, List, [], ◌∷◌, ◌++◌, Option, Some, None, option_map, refl, sym, ◌∙◌, ap, ap₂}
+use Rattle.dt_tree.specs.declared.tree.Expr.{Expr, out-Expr, roll-Expr, roll-out-Expr}
 use Rattle.dt_tree.specs.declared.tree.Expr.TheOpen.{Expr-F, Second-F, Bracket-F}
 use Rattle.dt_tree.specs.declared.tree.Expr.TheOpen as layer
 use Rattle.dt_tree.specs.declared.tree.Expr.TheVariants as code
@@ -11,8 +9,8 @@ use Rattle.dt_tree.specs.declared.tree.Arg.{Arg}
 use Rattle.dt_tree.specs.declared.tree.Bracket.{Bracket, out-Bracket, roll-Bracket, roll-out-Bracket}
 use Rattle.dt_tree.specs.declared.tree.Second.{Second, out-Second, roll-Second, roll-out-Second}
 use Rattle.dt_tree.specs.declared.tree.Second.TheVariants as second
-use Rattle.run_model.specs.GrammarTrees.{Word, Value, Typed, Null, Infinite, Not, Negate, Tree, Lit, Var, Paren, Unary, Chain, Call, Query, Formula, Tails, NoTails, MoreTails, Args, NoArgs, MoreArgs, Item, Absent, Given, Assigns, AssignsAll, Brackets, NoBrackets, MoreBrackets}
-use Rattle.run_model.specs.TreeView.{tails_from, args_from, brackets_from, tree_of, item_of_second, item_in, arg_of, bracket_of, tail_of, tails_of, args_of, brackets_of, first_of, second_of}
+use Rattle.run_model.specs.GrammarTrees.{Typed, Null, Infinite, Not, Negate, Tree, Lit, Var, Paren, Unary, Chain, Call, Query, Formula, Tails, NoTails, MoreTails, Args, NoArgs, MoreArgs, Item, Absent, Given, Assigns, AssignsAll, Brackets, NoBrackets, MoreBrackets}
+use Rattle.run_model.specs.TreeView.{tree_of, item_of_second, item_in, bracket_of, tails_of, args_of, brackets_of, first_of, second_of}
 use Rattle.dt_grammar.proofs.Trees.{tree_of-Lit, tree_of-Null, tree_of-Infinite, tree_of-Name, tree_of-Paren, tree_of-Minus, tree_of-Not, tree_of-Chain, tree_of-Call, tree_of-Query, tree_of-Formula, tails_of-push, args_of-push, brackets_of-push, bracket_of-roll, item_of_second-Value, item_of_second-Assign, item_of_second-AssignAll}
 
 -- one layer of a tree, and the tree that it is seen as

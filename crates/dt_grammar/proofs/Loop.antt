@@ -1,6 +1,6 @@
 -- The machine over the first tokens of a script: where it goes on, where it stops, and where the
 -- tokens end.
-use Rattle.std.proofs.Common.{◌≡◌, ℕ, suc, ◌+◌, ◌≤◌, ◌<◌, List, [], ◌∷◌, ◌++◌, length, take, take_all, get_or, map, Option, Some, None, option_and_then, refl, sym, ◌∙◌, ap, subst, arith}
+use Rattle.std.proofs.Common.{◌≡◌, ℕ, ◌+◌, ◌<◌, List, [], ◌∷◌, length, take, take_all, get_or, map, Option, Some, None, option_and_then, refl, sym, ◌∙◌, ap, subst, arith}
 use Rattle.std.proofs.lemmas.List.{take-map, map_more, length-map}
 use Rattle.dt_tree.specs.declared.token.Placed.{Placed}
 use Rattle.run_model.specs.GrammarTrees.{Token, Stmt}

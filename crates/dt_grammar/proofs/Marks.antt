@@ -1,9 +1,9 @@
 -- Each mark of the text has its flag.
-use Rattle.std.proofs.Common.{◌≡◌, ℕ, suc, ◌+◌, Bool, true, false, cond, List, [], ◌∷◌, ◌++◌, Option, Some, None, length, refl, sym, ◌∙◌, ap, ap₂, arith, length-append}
+use Rattle.std.proofs.Common.{◌≡◌, ℕ, suc, ◌+◌, Bool, true, false, cond, List, [], ◌∷◌, ◌++◌, Option, length, refl, sym, ◌∙◌, ap, arith, length-append}
 use Rattle.dt_base.specs.declared.operators.Op.TheVariants.{Add}
 use Rattle.dt_tree.specs.declared.tree.BinOp.TheVariants.{Arith}
-use Rattle.run_model.specs.GrammarTrees.{Word, Token, Name, Operator, Is, Arrow, Open, Shut, OpenSquare, ShutSquare, Comma, Tilde, Assign, Break, Prefix, Not, Negate, Tree, Lit, Var, Paren, Unary, Chain, Call, Query, Formula, Absent, Given, Assigns, AssignsAll, Tails, Args, NoArgs, Item, Brackets, NoBrackets, MoreBrackets, Stmt}
-use Rattle.run_model.specs.Grammar.{prefix_token, post, item_of, is_assign, takes_unnamed, Filled, Nothing, UpToI, UpToJ, UpToBy, with_item, with_name, with_bracket, IsTarget, without, named, IsLeft, plain, arrow, IsNames, name, names, IsExpr, higher, chain, unary, literal, var, paren, call, bracket, IsTails, one, again, IsHead, bare, behind, IsArg, expr, formula, IsArgs, none, some, IsBefore, first, later, IsItem, empty, value, assigns, IsItems, unnamed, with, IsFilled, begin, comma, IsLines, start, blank, line, IsScript, ended, open_end}
+use Rattle.run_model.specs.GrammarTrees.{Word, Token, Name, Operator, Is, Arrow, Open, Shut, OpenSquare, ShutSquare, Comma, Tilde, Assign, Break, Prefix, Not, Negate, Tree, Call, Query, Absent, Given, Assigns, AssignsAll, Tails, Args, Item, Brackets, NoBrackets, MoreBrackets, Stmt}
+use Rattle.run_model.specs.Grammar.{prefix_token, item_of, is_assign, takes_unnamed, Filled, Nothing, UpToI, UpToJ, UpToBy, with_item, with_name, with_bracket, IsTarget, without, named, IsLeft, plain, arrow, IsNames, name, names, IsExpr, higher, chain, unary, literal, var, paren, call, bracket, IsTails, one, again, IsHead, bare, behind, IsArg, expr, formula, IsArgs, none, some, IsBefore, first, later, IsItem, empty, value, assigns, IsItems, unnamed, with, IsFilled, begin, comma, IsLines, start, blank, line, IsScript, ended, open_end}
 use Rattle.run_model.specs.Misplaced.{is_mark, marks_from, name_flags, target_flags, names_flags, inner, inner_tails, inner_args, inner_item, inner_brackets, Stage, Free, Assigned, Over, j_flags, bracket_flags, stage, outer_brackets, outer, stmt_flags, flags}
 
 abbrev count : List Token → ℕ

@@ -1,11 +1,10 @@
 -- Tokens are a script or have one first fault, and not both; and so with the bytes of a script.
-use Rattle.std.proofs.Common.{◌≡◌, ℕ, zero, suc, ◌+◌, ◌≤◌, ◌<◌, ◌⊎◌, inl, inr, List, [], ◌∷◌, ◌++◌, length, take, drop, take-append-drop, map, Option, Some, None, option_and_then, refl, sym, ◌∙◌, ap, ap₂, subst, arith, append_assoc, append-nil, length-append}
+use Rattle.std.proofs.Common.{◌≡◌, ℕ, ◌+◌, ◌≤◌, ◌<◌, ◌⊎◌, inl, inr, List, [], ◌∷◌, ◌++◌, length, take, drop, take-append-drop, Option, Some, None, option_and_then, refl, sym, ◌∙◌, ap, ap₂, subst, arith, append_assoc, append-nil, length-append}
 use Rattle.std.proofs.lemmas.Bool.{cases_order}
 use Rattle.std.proofs.lemmas.List.{take-append-le, length-take-le}
 use Rattle.std.proofs.Math.Seq.{take-append_seam, take-append-add}
 use Rattle.dt_tree.specs.declared.fault.ScriptFault.{ScriptFault}
 use Rattle.dt_tree.specs.declared.fault.ScriptFault.TheVariants.{Syntax}
-use Rattle.dt_tree.specs.declared.token.Placed.{Placed}
 use Rattle.dt_tree.specs.declared.tree.Script.{Script}
 use Rattle.dt_tree.specs.declared.tree.Stmt as stmt_type
 use Rattle.run_model.specs.FirstFault.{IsViable, IsFirstFault}
@@ -15,8 +14,8 @@ use Rattle.run_model.specs.Misplaced.{misplaced}
 use Rattle.run_model.specs.Reading.{IsFaultAt, ungrammatical, stands_wrong, fault_place, IsReadAs, IsRefused, in_tokens, in_grammar}
 use Rattle.run_model.specs.TokenLaws.{OneAnswer}
 use Rattle.run_model.specs.TokenView.{plain_tokens}
-use Rattle.run_model.specs.Tokens.{AreTokens, HasFault, unmarked}
-use Rattle.run_model.specs.TreeView.{tree_of, stmt_of, stmts_of, script_of}
+use Rattle.run_model.specs.Tokens.{unmarked}
+use Rattle.run_model.specs.TreeView.{stmt_of, stmts_of, script_of}
 use Rattle.dt_grammar.specs.Machine.{State, step, run, init, finish}
 use Rattle.dt_grammar.proofs.Complete.{run-append, one_script}
 use Rattle.dt_grammar.proofs.Inverse.{same_tree}

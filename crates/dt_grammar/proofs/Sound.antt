@@ -1,11 +1,11 @@
 -- What the machine has read is what its state says.
-use Rattle.std.proofs.Common.{◌≡◌, ℕ, zero, suc, ◌≤◌, ◌<◌, ◌⊎◌, inl, inr, Bool, true, false, cond, List, [], ◌∷◌, ◌++◌, Option, Some, None, IfSome, option_and_then, option_map, refl, sym, ◌∙◌, ap, ap₂, subst, arith, append_assoc, append-nil, leb, leb-true, leb-false, nat_le, ◌==◌, eqb-true}
+use Rattle.std.proofs.Common.{◌≡◌, ℕ, zero, suc, ◌≤◌, ◌⊎◌, inl, inr, Bool, true, false, cond, List, [], ◌∷◌, ◌++◌, Option, Some, None, IfSome, option_and_then, option_map, refl, sym, ◌∙◌, ap, ap₂, subst, arith, append_assoc, append-nil, leb-true, leb-false, nat_le, ◌==◌, eqb-true}
 use Rattle.dt_base.specs.declared.operators.Op.TheVariants.{Add, Sub, Mul, Div, Mod, Eq, Ne, Lt, Le, Gt, Ge, And, Or}
 use Rattle.dt_tree.specs.declared.tree.BinOp.{BinOp}
 use Rattle.dt_tree.specs.declared.tree.BinOp.TheVariants.{Arith, In, Range}
-use Rattle.run_model.specs.GrammarTrees.{Word, Value, Prefix, Not, Negate, Token, Name, Literal, Operator, Bang, Tilde, Assign, Arrow, Is, Open, Shut, OpenSquare, ShutSquare, Comma, Break, Tree, Lit, Var, Paren, Unary, Chain, Tails, NoTails, MoreTails, Call, Query, Formula, Args, NoArgs, MoreArgs, Item, Absent, Given, Assigns, AssignsAll, Brackets, NoBrackets, MoreBrackets, Stmt}
-use Rattle.run_model.specs.Grammar.{level, is_single, prefix_level, prefix_token, post, prim, Filled, Nothing, UpToI, UpToJ, UpToBy, takes_unnamed, is_j, with_item, with_name, with_bracket, item_of, IsTarget, without, named, IsLeft, plain, arrow, IsNames, name, names, IsExpr, higher, chain, unary, literal, var, paren, call, bracket, IsTails, one, again, IsHead, bare, behind, IsArg, expr, formula, IsArgs, none, some, IsBefore, first, later, IsItem, empty, value, assigns, IsItems, unnamed, with, IsFilled, begin, comma as a_comma, IsLines, start, blank, line, IsScript, ended, open_end}
-use Rattle.dt_grammar.specs.Machine.{Head, head_of, query, Frame, Front, Left, InParen, InCall, InItem, InNamed, InAssign, InStmt, State, Want, Have, NeedName, NeedIs, NeedWord, HaveWords, demand, close, front, begin_chain, extend_chain, infix_op, tail_names, item_from, next_item, shut_none, shut_square_none, comma_none, break_none, shut, item, shut_square, comma_item, comma, break, assign, names_of, tilde, opens, name_top, naming, arrow_top, step, run, init, last_stmt, finish, parsed}
+use Rattle.run_model.specs.GrammarTrees.{Word, Prefix, Not, Negate, Token, Name, Literal, Operator, Bang, Tilde, Assign, Arrow, Is, Open, Shut, OpenSquare, ShutSquare, Comma, Break, Tree, Lit, Var, Paren, Unary, Chain, Tails, NoTails, MoreTails, Call, Query, Formula, Args, NoArgs, MoreArgs, Absent, Assigns}
+use Rattle.run_model.specs.Grammar.{level, is_single, prefix_level, prefix_token, post, prim, Filled, Nothing, UpToI, UpToJ, UpToBy, takes_unnamed, is_j, with_item, IsTarget, without, named, IsLeft, plain, arrow, IsNames, name, names, IsExpr, higher, chain, unary, literal, var, paren, call, bracket, IsTails, one, again, IsHead, bare, behind, expr, formula, IsArgs, none, some, IsBefore, first, later, IsItem, empty, value, assigns, IsItems, unnamed, with, IsFilled, begin, comma as a_comma, IsLines, start, blank, line, IsScript, ended, open_end}
+use Rattle.dt_grammar.specs.Machine.{Head, head_of, query, Frame, Front, Left, InParen, InCall, InItem, InNamed, InAssign, InStmt, State, Want, Have, NeedName, NeedIs, NeedWord, HaveWords, demand, close, front, begin_chain, extend_chain, infix_op, tail_names, item_from, next_item, shut_none, shut_square_none, comma_none, break_none, shut, item, shut_square, comma, break, assign, names_of, tilde, opens, name_top, naming, arrow_top, step, run, init, last_stmt, finish, parsed}
 
 -- operators and operands before this operator, of its level
 abbrev pub TailsBefore : List Token → Tails → BinOp → Type 0

@@ -10,10 +10,10 @@ use Rattle.dt_tree.specs.declared.tree.Bracket.{Bracket, out-Bracket}
 use Rattle.dt_tree.specs.declared.tree.Second.{Second, out-Second, roll-Second, roll-out-Second}
 use Rattle.dt_tree.specs.declared.tree.Second.TheVariants as second
 use Rattle.dt_tree.specs.declared.tree.Stmt as stmt_type
-use Rattle.run_model.specs.GrammarTrees.{Word, Tree, Args, NoArgs, MoreArgs, Item, Absent, Given, Assigns, AssignsAll, Stmt}
-use Rattle.run_model.specs.Misplaced.{Stage, Free, Assigned, target_flags, inner, inner_args, inner_brackets, j_stage, j_flags, all_named, are_pairs, is_empty, outer, outer_brackets, bracket_flags, stage, next_stage, stmt_flags, flags}
+use Rattle.run_model.specs.GrammarTrees.{Word, Tree, Args, NoArgs, MoreArgs, Item, Absent, Given, Assigns, AssignsAll}
+use Rattle.run_model.specs.Misplaced.{Stage, Free, Assigned, target_flags, inner, inner_args, j_stage, j_flags, all_named, are_pairs, is_empty, outer, outer_brackets, bracket_flags, stage, next_stage, stmt_flags, flags}
 use Rattle.run_model.specs.TreeView.{ArgTree, args_from, arg_of, tree_of, item_of_second, args_of, brackets_of, first_of, second_of, stmt_of, stmts_of}
-use Rattle.dt_grammar.proofs.Inverse.{Layer, SecondLayer, second-roll, seen_layer, tree_of-roll, bracket_opened}
+use Rattle.dt_grammar.proofs.Inverse.{Layer, SecondLayer, second-roll, tree_of-roll, bracket_opened}
 use Rattle.dt_grammar.proofs.Trees.{tree_of-Query, arg_of_is, args_of-push, brackets_of-push, item_of_second-Value, item_of_second-Assign, item_of_second-AssignAll}
 use Rattle.dt_misplaced.proofs.Parts.{both_parts}
 

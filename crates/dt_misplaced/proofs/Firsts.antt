@@ -1,9 +1,8 @@
 -- The first mark whose flag is true, token by token.
-use Rattle.std.proofs.Common.{◌≡◌, ℕ, zero, suc, ◌+◌, ◌<◌, ◌≤◌, Bool, true, false, cond, List, [], ◌∷◌, ◌++◌, length, drop, get_or, map, Option, Some, None, refl, sym, ◌∙◌, ap, ap₂, arith}
+use Rattle.std.proofs.Common.{◌≡◌, ℕ, suc, ◌+◌, ◌<◌, ◌≤◌, Bool, true, false, cond, List, ◌∷◌, length, drop, get_or, Option, Some, None, sym, ◌∙◌, ap, ap₂, arith}
 use Rattle.std.proofs.lemmas.List.{drop_more}
 use Rattle.std.proofs.Math.ListN.{drop_of_length-le}
 use Rattle.dt_tree.specs.declared.token.Placed.{Placed}
-use Rattle.run_model.specs.GrammarTrees.{Token}
 use Rattle.run_model.specs.Misplaced.{is_mark, marks_from, first_wrong}
 use Rattle.run_model.specs.TokenView.{plain_token, plain_tokens}
 

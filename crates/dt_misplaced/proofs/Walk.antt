@@ -1,5 +1,5 @@
 -- The flags of a tree that code holds, part by part.
-use Rattle.std.proofs.Common.{◌≡◌, ℕ, Bool, true, false, List, [], ◌∷◌, ◌++◌, Option, Some, None, refl, sym, ◌∙◌, ap, append_assoc, append-nil}
+use Rattle.std.proofs.Common.{◌≡◌, true, false, List, [], ◌∷◌, ◌++◌, refl, sym, ◌∙◌, ap, append_assoc, append-nil}
 use Rattle.dt_base.specs.declared.cell.Cell.{Cell}
 use Rattle.dt_base.specs.declared.cell.ColType.{ColType}
 use Rattle.dt_tree.specs.declared.tree.Expr.{Expr}
@@ -7,11 +7,10 @@ use Rattle.dt_tree.specs.declared.tree.Expr.TheVariants as code
 use Rattle.dt_tree.specs.declared.tree.Tail.{Tail}
 use Rattle.dt_tree.specs.declared.tree.Arg.{Arg}
 use Rattle.dt_tree.specs.declared.tree.Bracket.{Bracket, out-Bracket}
-use Rattle.dt_tree.specs.declared.tree.Second.{Second}
 use Rattle.dt_tree.specs.declared.tree.Second.TheVariants as second
 use Rattle.run_model.specs.GrammarTrees.{Word}
 use Rattle.run_model.specs.Misplaced.{name_flags, target_flags, names_flags, inner, inner_tails, inner_args, inner_item, inner_brackets}
-use Rattle.run_model.specs.TreeView.{tree_of, item_of_second, tails_of, args_of, brackets_of, bracket_of, first_of, second_of}
+use Rattle.run_model.specs.TreeView.{tree_of, item_of_second, tails_of, args_of, brackets_of, first_of, second_of}
 use Rattle.dt_grammar.proofs.Inverse.{bracket_opened}
 use Rattle.dt_grammar.proofs.Trees.{tree_of-Lit, tree_of-Null, tree_of-Infinite, tree_of-Name, tree_of-Paren, tree_of-Minus, tree_of-Not, tree_of-Chain, tree_of-Call, tree_of-Query, tree_of-Formula, tails_of-push, args_of-push, brackets_of-push, item_of_second-Value, item_of_second-Assign, item_of_second-AssignAll}
 

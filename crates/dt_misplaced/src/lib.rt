@@ -12,5 +12,7 @@
 
 mod inner;
 mod outer;
+#[cfg(test)]
+mod tests;
 
 pub use outer::misplaced_at;

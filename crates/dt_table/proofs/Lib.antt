@@ -1,2 +1,3 @@
+mod Examples
 pub mod Names
 pub mod Tables

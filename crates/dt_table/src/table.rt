@@ -1,14 +1,16 @@
-ghost use Rattle.std.specs.Prelude.{◌≡◌, ◌+◌, ◌<◌, IfOk, IfErr, All, length, slice_get, Some};
+ghost use Rattle.std.specs.Prelude.{◌≡◌, ◌+◌, ◌*◌, ◌<◌, ◌≤◌, IfOk, OnOk, IfErr, All, length, slice_get, Some};
 ghost use Rattle.dt_model.specs.Table.{place_of};
 ghost use Rattle.dt_table.specs.Make.{refusal, IsCause};
 
+use crate::copies::{copied_indices, copied_names};
 use crate::make::{is_within_cells, repeated_name};
 use crate::{Index, MakeFail};
-use dt_base::ColName;
 use dt_base::limits::{MAX_COLUMNS, MAX_ROWS, SPARE_COLUMNS};
+use dt_base::{ColName, Steps};
 use na_vector::Frame;
-use std::alloc::Global;
+use std::alloc::{AllocError, Global};
 use std::marker::Model;
+use std::sync::ledger::Ledger;
 
 /// A table: named columns of one length, a key, indices, and a number of column slots.
 ///
@@ -34,7 +36,7 @@ impl Model for Table {
 }
 
 impl Table {
-    ghost use Rattle.dt_table.specs.Table.{IsTable, IsFilled, made};
+    ghost use Rattle.dt_table.specs.Table.{IsTable, IsFilled, IsCopy, made};
 
     /// The table of these names and this frame, without key and indices, with 1,024 slots more than
     /// columns. There are as many names as columns, and no name is empty.
@@ -134,5 +136,26 @@ impl Table {
         ensures { slice_get self.now.indices k ≡ Some result.now }
     {
         &self.indices[k]
+    }
+
+    /// The same names, rows, key and indices once more, in memory of their own, with 1,024 slots
+    /// more than columns. It touches each cell.
+    pub fn copy<L: Ledger>(&self, alloc: Global, steps: &mut Steps<L>) -> Result<Table, AllocError>
+        ensures ok { IfOk result (IsCopy self.now) }
+        ensures touches { OnOk result (steps.new ≡ steps.old + length self.now.frame.columns * self.now.frame.rows) }
+        ensures at_most { steps.new ≤ steps.old + length self.now.frame.columns * self.now.frame.rows }
+    {
+        let names = copied_names(alloc, &self.names)?;
+        let key = Vec::from_slice(alloc, &self.key)?;
+        let indices = copied_indices(alloc, &self.indices)?;
+        let frame = self.frame.copy(alloc, steps)?;
+        let own_slots = frame.width() + SPARE_COLUMNS;
+        Ok(Table {
+            names,
+            frame,
+            key,
+            indices,
+            slots: own_slots,
+        })
     }
 }

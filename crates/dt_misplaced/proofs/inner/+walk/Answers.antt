@@ -1,4 +1,4 @@
-use Rattle.std.proofs.Common.{◌≡◌, [], ◌∷◌, ◌++◌, append_assoc, refl, sym, ◌∙◌, ap, ap₂, true, false, arith}
+use Rattle.std.proofs.Common.{◌∷◌, ◌++◌, sym, ◌∙◌, ap, ap₂, true, false}
 use Rattle.run_model.specs.Misplaced.{name_flags, target_flags, names_flags, inner, inner_tails, inner_args, inner_item, inner_brackets}
 use Rattle.run_model.specs.TreeView.{tree_of, item_of_second, tails_of, args_of, brackets_of, first_of, second_of}
 use Rattle.dt_tree.specs.declared.tree.Bracket.{out-Bracket}

@@ -1,4 +1,4 @@
-use Rattle.std.proofs.Common.{◌++◌, false}
+use Rattle.std.proofs.Common.{false}
 use Rattle.run_model.specs.Misplaced.{name_flags, names_flags}
 use Rattle.dt_misplaced.proofs.Parts.{one_more}
 use Rattle.dt_misplaced.proofs.Walk.{names-push}

@@ -1,4 +1,3 @@
-use Rattle.std.proofs.Common.{◌++◌}
 use Rattle.dt_misplaced.specs.Stages.{stage_of}
 use Rattle.dt_misplaced.proofs.Chains.{chain_more, stage_more}
 use Rattle.dt_misplaced.proofs.outer.walk_chain.Goals as goal

@@ -1,6 +1,6 @@
-use Rattle.std.proofs.Common.{◌∷◌, ◌++◌, ◌∙◌, sym, ap, ap₂, not, false}
-use Rattle.run_model.specs.Misplaced.{inner, inner_args, j_flags, are_pairs}
-use Rattle.run_model.specs.TreeView.{tree_of, item_of_second, args_of}
+use Rattle.std.proofs.Common.{◌∷◌, ◌∙◌, sym, ap, ap₂, not}
+use Rattle.run_model.specs.Misplaced.{inner_args, j_flags, are_pairs}
+use Rattle.run_model.specs.TreeView.{item_of_second, args_of}
 use Rattle.dt_misplaced.proofs.Parts.{two_parts, around_mark}
 use Rattle.dt_misplaced.proofs.Chains.{free-Assign, free-AssignAll}
 use Rattle.dt_misplaced.proofs.outer.walk_free_j.Goals as goal

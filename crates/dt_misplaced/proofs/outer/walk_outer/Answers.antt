@@ -1,4 +1,4 @@
-use Rattle.std.proofs.Common.{◌++◌, ◌∙◌, sym, ap, ap₂, OnOk}
+use Rattle.std.proofs.Common.{◌++◌, ◌∙◌, sym, ap, ap₂}
 use Rattle.run_model.specs.Misplaced.{inner, outer, outer_brackets}
 use Rattle.run_model.specs.TreeView.{tree_of, brackets_of}
 use Rattle.dt_misplaced.proofs.Parts.{two_parts}

@@ -1,3 +1,0 @@
-pub mod FrameViews
-pub mod StepViews
-pub mod Sums
