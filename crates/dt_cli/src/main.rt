@@ -1,5 +1,17 @@
-//! The program `dtq`: it reads a script, reads the CSV file that the script names, and prints its
-//! table.
+//! The program `dtq`: it runs the script that its one word names.
+//!
+//! `run` is the whole program over any files and sinks; `main` calls it over those of the machine.
+//! A run reads the script and looks at its form (`script_form`), reads the CSV file that the script
+//! names, record by record (`records`, `header`, `grid`, `integer_file`), and prints its table. The
+//! text is put at once, when all of it is there, so a run that is refused prints nothing.
+//!
+//! It stands on `dt_world` for the outside, on `dt_print` for the text, on `cell_text` for the
+//! spelling of integers, and on the crate `csv` for records.
+//!
+//! It promises that what is put and the status are those of the plain evaluation, `Headline` in
+//! specs/Run, and that each answer that blames the outside comes only where a count of it rose.
+//!
+//! It costs one pass over the file. A cell takes 8 bytes, and one record is held at a time.
 #![tactic(auto)]
 
 ghost use Rattle.std.specs.Prelude.{◌≡◌, ◌<◌};
