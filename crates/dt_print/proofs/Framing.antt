@@ -1,17 +1,17 @@
 -- A frame's columns, and the heads and rows that they are seen as.
-use Rattle.std.proofs.Common.{◌≡◌, ◌∙◌, ℕ, zero, suc, ◌+◌, ◌-◌, ◌<◌, ◌≤◌, Bool, true, false, cond, max, List, [], ◌∷◌, ◌++◌, length, take, drop, get_or, refl, sym, ap, arith, Option, None, Some}
+use Rattle.std.proofs.Common.{◌≡◌, ◌∙◌, ℕ, zero, suc, ◌+◌, ◌-◌, ◌<◌, max, List, [], ◌∷◌, ◌++◌, length, get_or, refl, sym, ap, arith, Some}
 use Rattle.std.specs.Prelude.{map, slice_get}
 use Rattle.std.specs.List.{range_with_len}
-use Rattle.std.proofs.lemmas.List.{map-append, length-map}
+use Rattle.std.proofs.lemmas.List.{map-append}
 use Rattle.std.proofs.lemmas.List.FromFn.{fill_by_all, map-range_with_len_more}
 use Rattle.dt_base.specs.declared.cell.Cell.{Cell}
 use Rattle.dt_base.specs.declared.cell.Cell.TheVariants.{Na}
 use Rattle.dt_model.specs.Vector.{Vector, cell_at}
-use Rattle.dt_model.specs.Table.{ColumnHead, row_at, rows_of, column_of}
+use Rattle.dt_model.specs.Table.{row_at, rows_of, column_of}
 use Rattle.na_vector.specs.Column.{Seen}
 use Rattle.run_model.specs.Printed.{characters, greatest, name_text, cell_text, shown, head_at, column_width}
 use Rattle.dt_print.specs.Framed.{frame_heads, vectors_of}
-use Rattle.dt_print.specs.Lines.{first_count, last_start, label_width_at, cell_width_at, width_in}
+use Rattle.dt_print.specs.Lines.{first_count, last_start, cell_width_at, width_in}
 use Rattle.dt_print.proofs.Spans.{shown-map, shown-range, greatest-append}
 
 -- the head of a column is its name and its type

@@ -1,3 +1,4 @@
+pub mod Elements
 pub mod Framing
 pub mod Spans
 pub mod Tables

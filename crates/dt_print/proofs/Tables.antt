@@ -1,6 +1,6 @@
 -- A table's text from the pieces that the code puts.
-use Rattle.std.proofs.Common.{◌≡◌, ◌∙◌, ℕ, zero, suc, ◌+◌, ◌-◌, ◌*◌, ◌<◌, ◌≤◌, Bool, true, false, cond, List, [], ◌∷◌, ◌++◌, length, get_or, replicate, refl, sym, ap, arith, append_assoc, Option, None, Some}
-use Rattle.std.specs.Prelude.{map, slice_get, slice_index, slice_index_or, codes, decimal, nat_le}
+use Rattle.std.proofs.Common.{◌≡◌, ◌∙◌, ℕ, zero, suc, ◌+◌, ◌-◌, ◌<◌, ◌≤◌, List, [], ◌∷◌, ◌++◌, length, replicate, refl, sym, ap, arith, append_assoc}
+use Rattle.std.specs.Prelude.{map, slice_get, slice_index, slice_index_or, codes, decimal}
 use Rattle.std.specs.List.{flat_map, range_with_len, join_with_byte}
 use Rattle.std.proofs.lemmas.List.FromFn.{get_or-map-range_with_len, length-map-range_with_len}
 use Rattle.std.proofs.lemmas.List.{append-nil}
@@ -10,9 +10,9 @@ use Rattle.dt_base.specs.declared.cell.Cell.{Cell}
 use Rattle.dt_model.specs.Vector.{cell_at}
 use Rattle.dt_model.specs.Table.{ColumnHead, row_at, rows_of}
 use Rattle.na_vector.specs.Column.{Seen}
-use Rattle.run_model.specs.Printed.{aligned, name_text, cell_text, head_at, label, label_width, column_width, header_line, row_line, lines_text, elided, null_table_text, empty_table_text, filled_table_text, printed_table}
+use Rattle.run_model.specs.Printed.{aligned, name_text, cell_text, head_at, label, label_width, column_width, header_line, row_line, lines_text, elided, filled_table_text, printed_table}
 use Rattle.dt_print.specs.Framed.{frame_heads, vectors_of}
-use Rattle.dt_print.specs.Lines.{part, first_count, last_start, shown_count, text_at, frame_cell, names_part, cells_part, frame_line, dashes, empty_text}
+use Rattle.dt_print.specs.Lines.{part, first_count, last_start, text_at, frame_cell, names_part, cells_part, frame_line, dashes, empty_text}
 use Rattle.dt_print.proofs.Spans.{lines_text-elided, lines_text-map}
 
 -- two functions that agree on a range give the same text there

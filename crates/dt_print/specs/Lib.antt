@@ -1,3 +1,4 @@
+pub mod Elements
 pub mod Framed
 pub mod Given
 pub mod Lines

@@ -29,7 +29,7 @@ pub fn push_number(out: &mut Vec<u8>, n: u64) -> Result<(), AllocError>
     out.extend_from_slice(buffer.format(n).as_bytes())
 }
 
-fn push_integer(out: &mut Vec<u8>, n: i64) -> Result<(), AllocError>
+pub fn push_integer(out: &mut Vec<u8>, n: i64) -> Result<(), AllocError>
     ensures { OnOk result (out.new.items ≡ out.old.items ++ signed_decimal n) }
 {
     let mut buffer = Buffer::new();
@@ -48,7 +48,7 @@ fn push_table_byte(out: &mut Vec<u8>, byte: u8) -> Result<(), AllocError>
     Ok(())
 }
 
-fn push_vector_byte(out: &mut Vec<u8>, byte: u8) -> Result<(), AllocError>
+pub fn push_vector_byte(out: &mut Vec<u8>, byte: u8) -> Result<(), AllocError>
     ensures { OnOk result (out.new.items ≡ out.old.items ++ vector_byte byte) }
 {
     match byte {
@@ -68,7 +68,7 @@ pub fn push_name(out: &mut Vec<u8>, text: &str) -> Result<(), AllocError>
     Ok(())
 }
 
-fn logical_word(b: bool) -> &'static str
+pub fn logical_word(b: bool) -> &'static str
     ensures { result.now ≡ logical_text b }
 {
     if b { "TRUE" } else { "FALSE" }

@@ -20,7 +20,9 @@ mod lines;
 mod messages;
 mod page;
 mod table;
+mod vector;
 mod widths;
 
 pub use messages::{fault_line, warn_lines};
-pub use table::frame_text;
+pub use table::{frame_text, table_text};
+pub use vector::{null_text, vector_text};

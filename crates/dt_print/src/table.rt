@@ -2,6 +2,7 @@
 ghost use Rattle.std.specs.Prelude.{◌≡◌, ◌+◌, ◌*◌, ◌<◌, ◌++◌, ◌∷◌, OnOk, IfOk, length, map, codes, decimal};
 ghost use Rattle.std.specs.List.{flat_map, join_with_byte};
 ghost use Rattle.run_model.specs.Printed.{name_text, null_table_text, filled_table_text, printed_table};
+ghost use Rattle.dt_table.specs.Plain.{plain};
 ghost use Rattle.dt_print.specs.Framed.{frame_heads, frame_rows};
 ghost use Rattle.dt_print.specs.Lines.{shown_count, empty_text};
 
@@ -10,6 +11,7 @@ use crate::lines::{Layout, push_dashes, push_header, push_rows};
 use crate::page::Page;
 use crate::widths::{column_widths, first_shown, label_width, last_shown};
 use dt_base::{Steps, Text};
+use dt_table::Table;
 use na_vector::Frame;
 use std::alloc::{AllocError, Global};
 use std::sync::ledger::Ledger;
@@ -105,4 +107,17 @@ pub fn frame_text<L: Ledger>(
     } else {
         filled_table(alloc, names, frame, steps)
     }
+}
+
+/// A table, printed as `frame_text` prints its columns with their names. Its key and its indices
+/// do not show.
+pub fn table_text<L: Ledger>(
+    alloc: Global,
+    t: &Table,
+    steps: &mut Steps<L>,
+) -> Result<Vec<u8>, AllocError>
+    ensures text { IfOk result (λ v. v.items ≡ printed_table (plain t.now).columns (plain t.now).rows) }
+    ensures touches { OnOk result (steps.new ≡ steps.old + 2 * (length t.now.frame.columns * shown_count t.now.frame.rows)) }
+{
+    frame_text(alloc, t.names(), t.frame(), steps)
 }

@@ -1,4 +1,4 @@
-use Rattle.std.proofs.Common.{◌≡◌, ◌∙◌, ℕ, ◌<◌, List, [], length, sym, ap, arith}
+use Rattle.std.proofs.Common.{◌∙◌, ℕ, ◌<◌, List, [], length, sym, ap, arith}
 use Rattle.std.specs.Prelude.{slice_index, slice_index_or}
 use Rattle.std.proofs.lemmas.List.{append-nil}
 use Rattle.run_model.specs.Printed.{name_text}

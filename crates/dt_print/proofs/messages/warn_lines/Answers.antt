@@ -1,4 +1,4 @@
-use Rattle.std.proofs.Common.{◌≡◌, ◌∙◌, sym}
+use Rattle.std.proofs.Common.{◌∙◌, sym}
 use Rattle.dt_base.specs.Warns.{has_warn}
 use Rattle.run_model.specs.Messages.{warn_line, all_warnings}
 use Rattle.dt_print.proofs.Warned.{flat_map-filter}

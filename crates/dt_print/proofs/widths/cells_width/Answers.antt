@@ -1,4 +1,4 @@
-use Rattle.std.proofs.Common.{◌≡◌, ◌∙◌, ap, arith}
+use Rattle.std.proofs.Common.{◌∙◌, arith}
 use Rattle.run_model.specs.Printed.{characters, cell_text}
 use Rattle.dt_print.specs.Lines.{cell_width_at}
 use Rattle.dt_print.proofs.Spans.{widest_more}

@@ -1,6 +1,5 @@
-use Rattle.std.proofs.Common.{◌≡◌, ◌∙◌, sym, ap, max, arith, ◌+◌, ◌-◌, ℕ}
+use Rattle.std.proofs.Common.{◌∙◌, ap}
 use Rattle.run_model.specs.Printed.{characters, name_text}
-use Rattle.dt_print.specs.Lines.{cell_width_at, width_in}
 use Rattle.dt_print.proofs.Framing.{shown_width}
 use Rattle.dt_print.proofs.widths.column_width.Goals as goal
 

@@ -1,7 +1,3 @@
-use Rattle.std.proofs.Common.{◌≡◌, ◌∙◌, sym, ap, max, ◌-◌}
-use Rattle.std.specs.Prelude.{map}
-use Rattle.std.specs.List.{range_with_len}
-use Rattle.run_model.specs.Printed.{greatest}
 use Rattle.dt_print.specs.Lines.{label_width_at}
 use Rattle.dt_print.proofs.Framing.{shown_widest}
 use Rattle.dt_print.proofs.widths.label_width.Goals as goal
