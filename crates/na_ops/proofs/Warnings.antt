@@ -22,10 +22,11 @@ lgl_true ty.Chr b = elim (b == 2) as (λ v. becomes_true ty.Chr (cond v is.Na (i
 lgl_na : (t : ColType) (b : ℕ) → becomes_na t (lgl_cell b) ≡ false
 lgl_na t b = elim (b == 2) as (λ v. becomes_na t (cond v is.Na (is.Lgl (b == 1))) ≡ false) [ true ↦ refl | false ↦ refl ]
 
-int_true : (t : ColType) → (t ≡ ty.Lgl → ⊥) → (n : ℤ) → becomes_true t (int_cell n) ≡ false
-int_true ty.Lgl h n = absurd (h refl)
-int_true ty.Int h n = elim (int_eq n (negsuc (2 ^ 63 - 1))) as (λ v. becomes_true ty.Int (cond v is.Na (is.Int n)) ≡ false) [ true ↦ refl | false ↦ refl ]
-int_true ty.Chr h n = elim (int_eq n (negsuc (2 ^ 63 - 1))) as (λ v. becomes_true ty.Chr (cond v is.Na (is.Int n)) ≡ false) [ true ↦ refl | false ↦ refl ]
+int_true_int : (n : ℤ) → becomes_true ty.Int (int_cell n) ≡ false
+int_true_int n = elim (int_eq n (negsuc (2 ^ 63 - 1))) as (λ v. becomes_true ty.Int (cond v is.Na (is.Int n)) ≡ false) [ true ↦ refl | false ↦ refl ]
+
+int_true_text : (n : ℤ) → becomes_true ty.Chr (int_cell n) ≡ false
+int_true_text n = elim (int_eq n (negsuc (2 ^ 63 - 1))) as (λ v. becomes_true ty.Chr (cond v is.Na (is.Int n)) ≡ false) [ true ↦ refl | false ↦ refl ]
 
 int_na : (t : ColType) (n : ℤ) → becomes_na t (int_cell n) ≡ false
 int_na t n = elim (int_eq n (negsuc (2 ^ 63 - 1))) as (λ v. becomes_na t (cond v is.Na (is.Int n)) ≡ false) [ true ↦ refl | false ↦ refl ]
@@ -45,9 +46,12 @@ lgls_true t words = never (becomes_true t) lgl_cell (lgl_true t) words
 pub lgls_na : (t : ColType) (words : List ℕ) → list_any (becomes_na t) (map lgl_cell words) ≡ false
 lgls_na t words = never (becomes_na t) lgl_cell (lgl_na t) words
 
--- integers warn only where they are brought to logicals
-pub ints_true : (t : ColType) (words : List ℤ) → (t ≡ ty.Lgl → ⊥) → list_any (becomes_true t) (map int_cell words) ≡ false
-ints_true t words h = never (becomes_true t) int_cell (int_true t h) words
+-- integers become TRUE only where they are brought to logicals
+pub ints_true_int : (words : List ℤ) → list_any (becomes_true ty.Int) (map int_cell words) ≡ false
+ints_true_int words = never (becomes_true ty.Int) int_cell int_true_int words
+
+pub ints_true_text : (words : List ℤ) → list_any (becomes_true ty.Chr) (map int_cell words) ≡ false
+ints_true_text words = never (becomes_true ty.Chr) int_cell int_true_text words
 
 pub ints_na : (t : ColType) (words : List ℤ) → list_any (becomes_na t) (map int_cell words) ≡ false
 ints_na t words = never (becomes_na t) int_cell (int_na t) words
@@ -55,5 +59,3 @@ ints_na t words = never (becomes_na t) int_cell (int_na t) words
 -- texts never become TRUE by mistake
 pub texts_true : (t : ColType) (texts : List (Option (List ℕ))) → list_any (becomes_true t) (map text_cell texts) ≡ false
 texts_true t texts = never (becomes_true t) text_cell (text_true t) texts
-
-pub ruleset none = (lgls_true, lgls_na, ints_true, ints_na, texts_true)

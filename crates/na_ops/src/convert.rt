@@ -12,7 +12,7 @@ ghost use Rattle.na_ops.specs.Shown.{shown, IsShown};
 use crate::OpFail;
 use crate::words::{Target, Word, Words, words_of};
 use dt_base::limits::NA_WORD;
-use dt_base::{ColType, Steps, Text, Warn, Warns};
+use dt_base::{ColType, Steps, Text, Warns};
 use na_vector::Column;
 use std::alloc::{AllocError, Global};
 use std::sync::ledger::Ledger;
@@ -144,28 +144,45 @@ fn some_lost<W: Target>(a: &[Option<Text>], made: &[W]) -> bool
     false
 }
 
+/// Whether some integer that is neither 0 nor 1 becomes TRUE.
+fn becomes_true(words: Words<'_>, to: ColType) -> bool
+    ensures { result ≡ list_any (becomes_true to) (shown words.entry).cells }
+{
+    match words {
+        Words::Lgl(_) => false,
+        Words::Int(x) => match to {
+            ColType::Lgl => some_other(x),
+            ColType::Int => false,
+            ColType::Chr => false,
+        },
+        Words::Chr(_) => false,
+    }
+}
+
+/// Whether some text became NA.
+fn becomes_na<W: Target>(words: Words<'_>, made: &[W]) -> bool
+    requires { map W.cell made.now ≡ map (brought W.kind) (shown words).cells }
+    ensures { result ≡ list_any (becomes_na W.kind) (shown words.entry).cells }
+{
+    match words {
+        Words::Lgl(_) => false,
+        Words::Int(_) => false,
+        Words::Chr(x) => some_lost::<W>(x, made),
+    }
+}
+
 /// The warnings of a column whose words were brought to the type.
-#[tactic(auto, using(crate::proofs::Warnings::none))]
 fn warns_of<W: Target>(words: Words<'_>, made: &[W]) -> Warns
     requires { map W.cell made.now ≡ map (brought W.kind) (shown words).cells }
     ensures { result ≡ coercion_warns W.kind (shown words.entry) }
 {
-    match words {
-        Words::Lgl(_) => Warns::none(),
-        Words::Int(x) => {
-            if W::kind() == ColType::Lgl && some_other(x) {
-                Warns::none().with(Warn::W01)
-            } else {
-                Warns::none()
-            }
-        }
-        Words::Chr(x) => {
-            if some_lost::<W>(x, made) {
-                Warns::none().with(Warn::W02)
-            } else {
-                Warns::none()
-            }
-        }
+    Warns {
+        w01: becomes_true(words, W::kind()),
+        w02: becomes_na::<W>(words, made),
+        w03: false,
+        w04: false,
+        w05: false,
+        w06: false,
     }
 }
 
