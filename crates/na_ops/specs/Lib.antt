@@ -1,4 +1,4 @@
 pub mod Answers
 pub mod Words
-pub mod Shown
 pub mod Families
+pub mod Same

@@ -3,12 +3,12 @@ ghost use Rattle.dt_model.specs.Operations.{Outcome, number, whole, added, subtr
 ghost use Rattle.na_vector.specs.Words.{int_cell};
 ghost use Rattle.na_ops.specs.Answers.{Answers, vector_of};
 ghost use Rattle.na_ops.specs.Families.{arithmetic_answer};
-ghost use Rattle.na_ops.specs.Shown.{shown, IsShown};
+ghost use Rattle.na_words.specs.Shown.{shown, IsShown};
 ghost use Rattle.na_ops.specs.Words.{IsWord};
 
 use crate::OpFail;
 use crate::places::{Kernel, over};
-use crate::words::{Number, Words};
+use na_words::{Number, Words};
 use dt_base::limits::{MAX_INTEGER, NA_WORD};
 use na_vector::Column;
 use std::alloc::Global;

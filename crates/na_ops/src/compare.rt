@@ -7,12 +7,11 @@ ghost use Rattle.dt_model.specs.Operations.{Gives, number, text, order_of, teste
 ghost use Rattle.na_vector.specs.Words.{int_cell, lgl_cell, text_cell, IsLglWord};
 ghost use Rattle.na_ops.specs.Answers.{Answers, vector_of};
 ghost use Rattle.na_ops.specs.Families.{comparison_answer};
-ghost use Rattle.na_ops.specs.Shown.{shown, IsShown};
+ghost use Rattle.na_words.specs.Shown.{shown, IsShown};
 
 use crate::OpFail;
-use crate::convert::brought_words;
 use crate::places::{Kernel, over};
-use crate::words::{NA_LGL, Number, Words};
+use na_words::{NA_LGL, Number, Words, brought_words};
 use dt_base::Text;
 use dt_base::limits::NA_WORD;
 use na_vector::Column;

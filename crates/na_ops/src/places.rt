@@ -5,7 +5,7 @@ ghost use Rattle.na_ops.specs.Answers.{Answers, IsNoMemory, vector_of};
 ghost use Rattle.na_ops.specs.Words.{IsWord, Serves};
 
 use crate::OpFail;
-use crate::words::{Target, Word};
+use na_words::{Target, Word};
 use na_vector::Column;
 use std::alloc::{AllocError, Global};
 
@@ -19,7 +19,7 @@ pub trait Kernel<A: Word, B: Word, W: Word> {
         ensures fine { IfSome result W.fine };
 }
 
-fn place_in(len: usize, p: usize) -> usize
+pub fn place_in(len: usize, p: usize) -> usize
     ensures { result ≡ (if len == 1 then 0 else p) }
 {
     if len == 1 { 0 } else { p }

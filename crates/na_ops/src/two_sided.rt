@@ -2,13 +2,13 @@ ghost use Rattle.std.specs.Prelude.{◌≡◌, ◌+◌, length};
 ghost use Rattle.dt_model.specs.Coercion.{common};
 ghost use Rattle.dt_model.specs.Operations.{binary, op_type};
 ghost use Rattle.na_ops.specs.Answers.{Answers, vector_of};
-ghost use Rattle.na_ops.specs.Shown.{shown, IsShown};
+ghost use Rattle.na_words.specs.Shown.{shown, IsShown};
 
 use crate::OpFail;
 use crate::arithmetic::{Add, Divide, Modulo, Multiply, Subtract, calculate};
 use crate::compare::{Equal, Greater, GreaterOrEqual, Less, LessOrEqual, NotEqual, compare};
 use crate::logic::{Both, Either, connect};
-use crate::words::{Words, words_of};
+use na_words::{Words, words_of};
 use dt_base::{ColType, Op, Steps};
 use na_vector::Column;
 use std::alloc::Global;

@@ -3,7 +3,7 @@ use Rattle.dt_base.specs.declared.cell.ColType.TheVariants as ty
 use Rattle.dt_model.specs.Operations.{over_cells, typed}
 use Rattle.na_vector.specs.Words.{text_cell}
 use Rattle.na_ops.specs.Answers.{Answers, vector_of}
-use Rattle.na_ops.specs.Shown.{shown}
+use Rattle.na_words.specs.Shown.{shown}
 use Rattle.na_ops.proofs.Mixed.{as_texts, left}
 use Rattle.na_ops.proofs.compare.compare_texts_right.Goals as goal
 

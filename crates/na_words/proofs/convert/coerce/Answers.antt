@@ -4,7 +4,7 @@ use Rattle.dt_base.specs.declared.cell.ColType.TheVariants as ty
 use Rattle.dt_base.specs.declared.warns.Warns.{Warns}
 use Rattle.dt_model.specs.Coercion.{coercion_warns}
 use Rattle.dt_model.specs.Vector.{Vector}
-use Rattle.na_ops.proofs.convert.coerce.Goals as goal
+use Rattle.na_words.proofs.convert.coerce.Goals as goal
 
 pub returns-in-Lgl-clause-warns : goal.returns-in-Lgl-clause-warns
 returns-in-Lgl-clause-warns g c =

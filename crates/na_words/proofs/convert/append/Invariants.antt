@@ -1,5 +1,5 @@
 use Rattle.std.proofs.Common.{◌≡◌, ◌+◌, ◌++◌, map, take, All, length}
-use Rattle.na_ops.proofs.convert.append.Given as goal
+use Rattle.na_words.proofs.convert.append.Given as goal
 
 abbrev pub invariant-loop-x : goal.invariant-loop-x
 invariant-loop-x g l = record {

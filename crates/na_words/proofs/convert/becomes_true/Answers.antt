@@ -1,6 +1,6 @@
 use Rattle.std.proofs.Common.{sym}
-use Rattle.na_ops.proofs.Warnings.{lgls_true, ints_true_int, ints_true_text, texts_true}
-use Rattle.na_ops.proofs.convert.becomes_true.Goals as goal
+use Rattle.na_words.proofs.Warnings.{lgls_true, ints_true_int, ints_true_text, texts_true}
+use Rattle.na_words.proofs.convert.becomes_true.Goals as goal
 
 pub returns-in-Lgl : goal.returns-in-Lgl
 returns-in-Lgl c = rw c.in-Lgl.is (sym (lgls_true c.args.to c.in-Lgl.field-0.now))

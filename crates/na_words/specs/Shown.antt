@@ -7,8 +7,8 @@ use Rattle.dt_base.specs.declared.cell.Cell.{Cell}
 use Rattle.dt_base.specs.declared.cell.ColType.{ColType}
 use Rattle.dt_model.specs.Vector.{Vector}
 use Rattle.na_vector.specs.Words.{int_vector, lgl_vector, text_vector, IsLglWord}
-use Rattle.na_ops.specs.declared.words.Words.{Words}
-use Rattle.na_ops.specs.declared.words.Words.TheVariants.{Lgl, Int, Chr}
+use Rattle.na_words.specs.declared.words.Words.{Words}
+use Rattle.na_words.specs.declared.words.Words.TheVariants.{Lgl, Int, Chr}
 
 -- the vector of this type with these cells
 abbrev pub vector_from : ColType → List Cell → Vector

@@ -1,15 +1,12 @@
-ghost use Rattle.std.specs.Prelude.{◌≡◌, ◌+◌, ◌<◌, ◌≤◌, ◌++◌, length, map, All, Some, Ok, OnOk, IfOk};
+ghost use Rattle.std.specs.Prelude.{◌≡◌, ◌+◌, ◌<◌, ◌≤◌, ◌++◌, length, map, All, OnOk, IfOk};
 ghost use Rattle.std.specs.List.{list_any};
 ghost use Rattle.dt_base.specs.declared.cell.Cell.{Cell};
 ghost use Rattle.dt_base.specs.declared.cell.ColType.TheVariants as ty;
 ghost use Rattle.dt_model.specs.Coercion.{brought, becomes_true, becomes_na, coerced, coercion_warns};
-ghost use Rattle.dt_model.specs.Operations.{typed};
 ghost use Rattle.dt_model.specs.Vector.{cell_at};
 ghost use Rattle.na_vector.specs.Words.{int_cell, text_cell};
-ghost use Rattle.na_ops.specs.Answers.{Answers, vector_of};
-ghost use Rattle.na_ops.specs.Shown.{shown, IsShown};
+ghost use Rattle.na_words.specs.Shown.{shown, IsShown};
 
-use crate::OpFail;
 use crate::words::{Target, Word, Words, words_of};
 use dt_base::limits::NA_WORD;
 use dt_base::{ColType, Steps, Text, Warns};
@@ -53,21 +50,6 @@ pub fn append<A: Word, W: Word + Drop, C: Change<A, W>>(
         out.push(C::of(alloc, x)?)?;
     }
     Ok(())
-}
-
-/// The column of the changed words.
-pub fn changed<A: Word, W: Target + Drop, C: Change<A, W>>(alloc: Global, a: &[A]) -> Result<Column, OpFail>
-    requires { length a.now ≤ 16777216 }
-    ensures { Answers vector_of (typed (Some W.kind) (Ok (map C.table (map A.cell a.now)))) result }
-{
-    let mut out = Vec::new(alloc);
-    match append::<A, W, C>(alloc, &mut out, a) {
-        Ok(()) => match W::column(out) {
-            Ok(column) => Ok(column),
-            Err(e) => Err(OpFail::NoMemory(e)),
-        },
-        Err(e) => Err(OpFail::NoMemory(e)),
-    }
 }
 
 /// Puts the words of a column, brought to the type, after those that are there.

@@ -1,8 +1,8 @@
 use Rattle.std.proofs.Common.{arith, ap, sym, ◌∙◌}
 use Rattle.dt_model.specs.Coercion.{brought, becomes_na}
 use Rattle.na_vector.specs.Words.{text_cell}
-use Rattle.na_ops.proofs.Lists.{as_long, paired, cell_at-map}
-use Rattle.na_ops.proofs.convert.is_lost_at.Goals as goal
+use Rattle.na_words.proofs.Lists.{as_long, paired, cell_at-map}
+use Rattle.na_words.proofs.convert.is_lost_at.Goals as goal
 
 pub offset_bounds-made-p : goal.offset_bounds-made-p
 offset_bounds-made-p g c = omega (arith, as_long g.W.Word.cell text_cell (brought g.W.Word.kind) c.args.made.now c.args.a.now c.requires.made)

@@ -1,11 +1,12 @@
 ghost use Rattle.std.specs.Prelude.{◌≡◌, ◌≤◌, ◌+◌, ◌^◌, length, map, All, IfOk, IfSome};
 ghost use Rattle.dt_base.specs.declared.cell.Cell.{Cell};
+ghost use Rattle.dt_base.specs.declared.cell.Cell.TheVariants as is;
 ghost use Rattle.dt_base.specs.declared.cell.ColType.{ColType as Kind};
 ghost use Rattle.dt_base.specs.declared.cell.ColType.TheVariants as ty;
 ghost use Rattle.dt_model.specs.Coercion.{is_na, to_lgl, to_int, to_text, brought};
 ghost use Rattle.dt_model.specs.Operations.{number};
 ghost use Rattle.na_vector.specs.Words.{int_cell, lgl_cell, text_cell, IsLglWord};
-ghost use Rattle.na_ops.specs.Shown.{shown, IsShown, vector_from};
+ghost use Rattle.na_words.specs.Shown.{shown, IsShown, vector_from};
 
 use cell_text::{integer_of, truth_of, truth_text};
 use dt_base::limits::NA_WORD;
@@ -79,6 +80,11 @@ pub trait Target: Word {
     fn of<A: Word>(alloc: Global, x: &A) -> Result<Self, AllocError>
         ensures word { IfOk result (λ w. Self.cell w ≡ brought Self.kind (A.cell x.now)) }
         ensures fine { IfOk result Self.fine };
+
+    /// The word of NA.
+    fn na() -> Self
+        ensures word { Self.cell result ≡ is.Na }
+        ensures fine { Self.fine result };
 
     /// The column of these words.
     fn column(words: Vec<Self>) -> Result<Column, AllocError>
@@ -209,6 +215,10 @@ impl Target for u8 {
         Ok(x.to_lgl())
     }
 
+    fn na() -> u8 {
+        NA_LGL
+    }
+
     fn column(words: Vec<u8>) -> Result<Column, AllocError>
         requires fine { All IsLglWord words.items }
         requires short { length words.items ≤ 16777216 }
@@ -223,6 +233,10 @@ impl Target for i64 {
         Ok(x.to_int())
     }
 
+    fn na() -> i64 {
+        NA_WORD
+    }
+
     fn column(words: Vec<i64>) -> Result<Column, AllocError>
         requires fine { All (λ n. Unit {0}) words.items }
         requires short { length words.items ≤ 16777216 }
@@ -235,6 +249,10 @@ impl Target for i64 {
 impl Target for Option<Text> {
     fn of<A: Word>(alloc: Global, x: &A) -> Result<Option<Text>, AllocError> {
         x.to_text(alloc)
+    }
+
+    fn na() -> Option<Text> {
+        None
     }
 
     fn column(words: Vec<Option<Text>>) -> Result<Column, AllocError>
