@@ -29,3 +29,6 @@ pub use operators::{Op, UnOp};
 pub use steps::Steps;
 pub use text::{ColName, Text};
 pub use warns::{Warn, Warns};
+
+#[cfg(test)]
+mod tests;

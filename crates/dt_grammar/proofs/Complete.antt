@@ -1,13 +1,13 @@
 -- What the grammar spells, the machine reads.
-use Rattle.std.proofs.Common.{◌≡◌, ◌≢◌, ℕ, zero, suc, ◌≤◌, ◌<◌, ◌⊎◌, inl, inr, Bool, true, false, cond, List, [], ◌∷◌, ◌++◌, Option, Some, None, IfSome, option_and_then, option_map, refl, sym, ◌∙◌, ap, ap₂, subst, arith, append_assoc, append-nil, leb, le-leb, leb-true, leb-false, nat_le, ◌==◌, eqb-true, eq-eqb, ne_eqb}
+use Rattle.std.proofs.Common.{◌≡◌, ℕ, suc, ◌≤◌, Bool, true, false, cond, List, [], ◌∷◌, ◌++◌, Option, Some, None, option_and_then, option_map, refl, sym, ◌∙◌, ap, ap₂, subst, arith, append_assoc, le-leb, leb-true, nat_le, ◌==◌, eq-eqb, ne_eqb}
 use Rattle.std.proofs.lemmas.Bool.{lt-leb}
-use Rattle.dt_base.specs.declared.operators.Op.TheVariants.{Add, Sub, Mul, Div, Mod, Eq, Ne, Lt, Le, Gt, Ge, And, Or}
+use Rattle.dt_base.specs.declared.operators.Op.TheVariants.{Add}
 use Rattle.dt_tree.specs.declared.tree.BinOp.{BinOp}
-use Rattle.dt_tree.specs.declared.tree.BinOp.TheVariants.{Arith, In, Range}
-use Rattle.run_model.specs.GrammarTrees.{Word, Value, Prefix, Not, Negate, Token, Name, Literal, Operator, Bang, Tilde, Assign, Arrow, Is, Open, Shut, OpenSquare, ShutSquare, Comma, Break, Tree, Lit, Var, Paren, Unary, Chain, Tails, NoTails, MoreTails, Call, Query, Formula, Args, NoArgs, MoreArgs, Item, Absent, Given, Assigns, AssignsAll, Brackets, NoBrackets, MoreBrackets, Stmt}
-use Rattle.run_model.specs.Grammar.{level, is_single, prefix_level, prefix_token, post, prim, Filled, Nothing, UpToI, UpToJ, UpToBy, takes_unnamed, is_j, with_item, with_name, with_bracket, item_of, IsTarget, without, named, IsLeft, plain, arrow, IsNames, name, names, IsExpr, higher, chain, unary, literal, var, paren, call, bracket, IsTails, one, again, IsHead, bare, behind, IsArg, expr, formula, IsArgs, none, some, IsBefore, first, later, IsItem, empty, value, assigns, IsItems, unnamed, with, IsFilled, begin, comma as a_comma, IsLines, start, blank, line, IsScript, ended, open_end}
-use Rattle.dt_grammar.proofs.Sound.{by_test, demand_low, tails_low, is_query}
-use Rattle.dt_grammar.specs.Machine.{Head, head_of, query, Frame, Front, Left, InParen, InCall, InItem, InNamed, InAssign, InStmt, State, Want, Have, NeedName, NeedIs, NeedWord, HaveWords, demand, close, front, begin_chain, extend_chain, infix_op, tail_names, item_from, next_item, shut_none, shut_square_none, comma_none, break_none, shut, item, shut_square, comma_item, comma, break, assign, names_of, tilde, opens, name_top, naming, arrow_top, step, run, init, last_stmt, finish, parsed}
+use Rattle.dt_tree.specs.declared.tree.BinOp.TheVariants.{Arith}
+use Rattle.run_model.specs.GrammarTrees.{Word, Prefix, Not, Negate, Token, Name, Literal, Operator, Tilde, Assign, Is, Open, Shut, OpenSquare, ShutSquare, Comma, Break, Tree, Lit, Var, Paren, Unary, Chain, Tails, NoTails, MoreTails, Call, Query, Formula, Args, NoArgs, MoreArgs, Item, Absent, Assigns, Brackets, NoBrackets, Stmt}
+use Rattle.run_model.specs.Grammar.{level, is_single, prefix_level, prefix_token, post, prim, Filled, Nothing, UpToI, UpToJ, UpToBy, takes_unnamed, is_j, with_item, with_name, item_of, IsTarget, without, named, IsLeft, plain, arrow, IsNames, name, names, IsExpr, higher, chain, unary, literal, var, paren, call, bracket, IsTails, one, again, IsHead, bare, behind, IsArg, expr, formula, IsArgs, none, some, IsBefore, first, later, IsItem, empty, value, assigns, IsItems, unnamed, with, IsFilled, begin, comma as a_comma, IsLines, start, blank, line, IsScript, ended, open_end}
+use Rattle.dt_grammar.proofs.Sound.{by_test, demand_low}
+use Rattle.dt_grammar.specs.Machine.{Head, head_of, query, Frame, Front, Left, InParen, InCall, InItem, InNamed, InAssign, InStmt, State, Want, Have, NeedWord, HaveWords, demand, close, front, begin_chain, extend_chain, infix_op, tail_names, item_from, next_item, shut, item, shut_square, comma, break, assign, names_of, tilde, step, run, init, last_stmt, finish, parsed}
 
 -- Runs in a row.
 pub run_cons : (s : State) (x : Token) (xs : List Token) (mid : State) (end : Option State) → step s x ≡ Some mid → run mid xs ≡ end → run s (x ∷ xs) ≡ end
@@ -77,9 +77,11 @@ read_whole k frames ts t h e = let low = demand_low frames in record { inner = f
 
 pub read_higher : (frames : List Frame) (k : ℕ) (ts : List Token) (t : Tree) → demand frames ≤ k → Reads frames (suc k) ts t → Reads frames k ts t
 read_higher frames k ts t h r = record {
-    inner = r.inner; last = r.last; goes = r.goes;
-    closes = sym (close_twice r.inner (suc k) k r.last (omega arith)) ∙ ap (close_at k) r.closes ∙ close_stays frames k t h
-  }
+  inner = r.inner;
+  last = r.last;
+  goes = r.goes;
+  closes = sym (close_twice r.inner (suc k) k r.last (omega arith)) ∙ ap (close_at k) r.closes ∙ close_stays frames k t h;
+}
 
 -- a token behind an expression that sees only what is closed
 pub read_then : (frames : List Frame) (k : ℕ) (ts : List Token) (t : Tree) (x : Token) (after : List Frame × Tree → Option State) (end : State) → Reads frames k ts t → ((inner : List Frame) (last : Tree) → step (Have inner last) x ≡ after (close k inner last)) → after (frames, t) ≡ Some end → run (Want frames) (ts ++ x ∷ []) ≡ Some end
@@ -113,11 +115,17 @@ pub record ReadsChain (frames : List Frame) (k : ℕ) (ts : List Token) (l : Tre
 
 pub read_tail : (frames : List Frame) (us vs : List Token) (op : BinOp) (l r : Tree) (before : Tails) (k : ℕ) → level op ≡ k → run (Want frames) (us ++ Operator op ∷ []) ≡ Some (Want (Left l before op ∷ frames)) → Reads (Left l before op ∷ frames) (suc k) vs r → ReadsChain frames k (us ++ Operator op ∷ vs) l (MoreTails before op r)
 read_tail frames us vs op l r before k e x y = record {
-    before = before; op = op; right = r; inner = y.inner; last = y.last;
-    goes = subst (λ z. run (Want frames) z ≡ Some (Have y.inner y.last)) (append_assoc us (Operator op ∷ []) vs)
+  before = before;
+  op = op;
+  right = r;
+  inner = y.inner;
+  last = y.last;
+  goes = subst (λ z. run (Want frames) z ≡ Some (Have y.inner y.last)) (append_assoc us (Operator op ∷ []) vs)
       (run_then (us ++ Operator op ∷ []) vs (Want frames) (Want (Left l before op ∷ frames)) (Some (Have y.inner y.last)) x y.goes);
-    closes = y.closes; all = refl; same = e
-  }
+  closes = y.closes;
+  all = refl;
+  same = e;
+}
 
 pub read_first : (frames : List Frame) (us : List Token) (op : BinOp) (l : Tree) → demand frames ≤ level op → Reads frames (suc (level op)) us l → run (Want frames) (us ++ Operator op ∷ []) ≡ Some (Want (Left l NoTails op ∷ frames))
 read_first frames us op l h r = read_then frames (suc (level op)) us l (Operator op) (infix_op op) (Want (Left l NoTails op ∷ frames)) r (λ i z. refl) (infix_begins op frames l h)
@@ -126,15 +134,17 @@ pub read_next : (frames : List Frame) (k : ℕ) (us : List Token) (op : BinOp) (
 read_next frames k us op l rest e f c =
     run_snoc us (Operator op) (Want frames) (Have c.inner c.last) (Want (Left l rest op ∷ frames)) c.goes
     (ap (λ n. infix_op op (close (suc n) c.inner c.last)) e ∙ ap (infix_op op) c.closes ∙ infix_goes_on op c.op l c.before frames c.right (c.same ∙ sym e) f
-      ∙ ap (λ z. Some (Want (Left l z op ∷ frames))) c.all)
+    ∙ ap (λ z. Some (Want (Left l z op ∷ frames))) c.all)
 
 pub read_chain : (frames : List Frame) (k : ℕ) (ts : List Token) (l : Tree) (rest : Tails) → demand frames ≤ k → ReadsChain frames k ts l rest → Reads frames k ts (Chain l rest)
 read_chain frames k ts l rest h c = record {
-    inner = c.inner; last = c.last; goes = c.goes;
-    closes = sym (close_twice c.inner (suc k) k c.last (omega arith)) ∙ ap (close_at k) c.closes
+  inner = c.inner;
+  last = c.last;
+  goes = c.goes;
+  closes = sym (close_twice c.inner (suc k) k c.last (omega arith)) ∙ ap (close_at k) c.closes
       ∙ cond_true (close k frames (Chain l (MoreTails c.before c.op c.right))) (Left l c.before c.op ∷ frames, c.right) (le-leb k (level c.op) (let q = c.same in omega arith))
-      ∙ close_stays frames k (Chain l (MoreTails c.before c.op c.right)) h ∙ ap (λ z. (frames, Chain l z)) c.all
-  }
+      ∙ close_stays frames k (Chain l (MoreTails c.before c.op c.right)) h ∙ ap (λ z. (frames, Chain l z)) c.all;
+}
 
 step_prefix : (frames : List Frame) (p : Prefix) → step (Want frames) (prefix_token p) ≡ front p frames
 step_prefix frames Not = refl
@@ -142,12 +152,13 @@ step_prefix frames Negate = refl
 
 pub read_unary : (frames : List Frame) (ts : List Token) (p : Prefix) (t : Tree) → demand frames ≤ prefix_level p → Reads (Front p ∷ frames) (suc (prefix_level p)) ts t → Reads frames (prefix_level p) (prefix_token p ∷ ts) (Unary p t)
 read_unary frames ts p t h y = record {
-    inner = y.inner; last = y.last;
-    goes = run_cons (Want frames) (prefix_token p) ts (Want (Front p ∷ frames)) (Some (Have y.inner y.last))
+  inner = y.inner;
+  last = y.last;
+  goes = run_cons (Want frames) (prefix_token p) ts (Want (Front p ∷ frames)) (Some (Have y.inner y.last))
       (step_prefix frames p ∙ cond_true (Some (Want (Front p ∷ frames))) None (le-leb (demand frames) (prefix_level p) h)) y.goes;
-    closes = sym (close_twice y.inner (suc (prefix_level p)) (prefix_level p) y.last (omega arith)) ∙ ap (close_at (prefix_level p)) y.closes
-      ∙ cond_true (close (prefix_level p) frames (Unary p t)) (Front p ∷ frames, t) (le-leb (prefix_level p) (prefix_level p) (omega arith)) ∙ close_stays frames (prefix_level p) (Unary p t) h
-  }
+  closes = sym (close_twice y.inner (suc (prefix_level p)) (prefix_level p) y.last (omega arith)) ∙ ap (close_at (prefix_level p)) y.closes
+      ∙ cond_true (close (prefix_level p) frames (Unary p t)) (Front p ∷ frames, t) (le-leb (prefix_level p) (prefix_level p) (omega arith)) ∙ close_stays frames (prefix_level p) (Unary p t) h;
+}
 
 pub read_paren : (frames : List Frame) (ts : List Token) (t : Tree) → Reads (InParen ∷ frames) 0 ts t → run (Want frames) (Open ∷ (ts ++ Shut ∷ [])) ≡ Some (Have frames (Paren t))
 read_paren frames ts t r = read_then (InParen ∷ frames) 0 ts t Shut shut (Have frames (Paren t)) r (λ i z. refl) refl
@@ -155,9 +166,11 @@ read_paren frames ts t r = read_then (InParen ∷ frames) 0 ts t Shut shut (Have
 -- Names, and what comes behind "~".
 read_lower : (frames : List Frame) (j k : ℕ) (ts : List Token) (t : Tree) → k ≤ j → demand frames ≤ k → Reads frames j ts t → Reads frames k ts t
 read_lower frames j k ts t le h r = record {
-    inner = r.inner; last = r.last; goes = r.goes;
-    closes = sym (close_twice r.inner j k r.last le) ∙ ap (close_at k) r.closes ∙ close_stays frames k t h
-  }
+  inner = r.inner;
+  last = r.last;
+  goes = r.goes;
+  closes = sym (close_twice r.inner j k r.last le) ∙ ap (close_at k) r.closes ∙ close_stays frames k t h;
+}
 
 -- the sum of the names, as it is read
 record Summed (frames : List Frame) (ts : List Token) (xs : List Word) : Type 0 where
@@ -179,14 +192,22 @@ record SummedMore (frames : List Frame) (ts : List Token) (xs : List Word) : Typ
 
 summed_more : {ts : List Token} {xs : List Word} → IsNames ts xs → (x : Word) (frames : List Frame) → demand frames ≤ 4 → SummedMore frames (ts ++ Operator (Arith Add) ∷ Name x ∷ []) (xs ++ x ∷ [])
 summed_more (name {x = y}) x frames h = record {
-    first_name = y; rest = MoreTails NoTails (Arith Add) (Var x); others = x ∷ []; named_so = refl; same = refl;
-    read_so = read_tail frames (Name y ∷ []) (Name x ∷ []) (Arith Add) (Var y) (Var x) NoTails 4 refl (read_first frames (Name y ∷ []) (Arith Add) (Var y) h (read_var frames 5 y (omega arith))) (read_var (Left (Var y) NoTails (Arith Add) ∷ frames) 5 x (omega arith))
-  }
+  first_name = y;
+  rest = MoreTails NoTails (Arith Add) (Var x);
+  others = x ∷ [];
+  named_so = refl;
+  same = refl;
+  read_so = read_tail frames (Name y ∷ []) (Name x ∷ []) (Arith Add) (Var y) (Var x) NoTails 4 refl (read_first frames (Name y ∷ []) (Arith Add) (Var y) h (read_var frames 5 y (omega arith))) (read_var (Left (Var y) NoTails (Arith Add) ∷ frames) 5 x (omega arith));
+}
 summed_more (names {ts} {xs} y d) x frames h =
     let s = summed_more d y frames h in
     record {
-      first_name = s.first_name; rest = MoreTails s.rest (Arith Add) (Var x); others = s.others ++ x ∷ []; named_so = ap (option_map (λ ys. ys ++ x ∷ [])) s.named_so; same = ap (λ z. z ++ x ∷ []) s.same;
-      read_so = read_tail frames (ts ++ Operator (Arith Add) ∷ Name y ∷ []) (Name x ∷ []) (Arith Add) (Var s.first_name) (Var x) s.rest 4 refl (read_next frames 4 (ts ++ Operator (Arith Add) ∷ Name y ∷ []) (Arith Add) (Var s.first_name) s.rest refl refl s.read_so) (read_var (Left (Var s.first_name) s.rest (Arith Add) ∷ frames) 5 x (omega arith))
+      first_name = s.first_name;
+      rest = MoreTails s.rest (Arith Add) (Var x);
+      others = s.others ++ x ∷ [];
+      named_so = ap (option_map (λ ys. ys ++ x ∷ [])) s.named_so;
+      same = ap (λ z. z ++ x ∷ []) s.same;
+      read_so = read_tail frames (ts ++ Operator (Arith Add) ∷ Name y ∷ []) (Name x ∷ []) (Arith Add) (Var s.first_name) (Var x) s.rest 4 refl (read_next frames 4 (ts ++ Operator (Arith Add) ∷ Name y ∷ []) (Arith Add) (Var s.first_name) s.rest refl refl s.read_so) (read_var (Left (Var s.first_name) s.rest (Arith Add) ∷ frames) 5 x (omega arith));
     }
 
 summed : {ts : List Token} {xs : List Word} → IsNames ts xs → (frames : List Frame) → demand frames ≤ 4 → Summed frames ts xs
@@ -218,13 +239,14 @@ read_arg_expr frames g args o ts t r = record { state = Have r.inner r.last; goe
 
 pub read_arg_formula : (frames : List Frame) (g : Word) (args : Args) (o : Option Word) (us vs : List Token) (xs ys : List Word) (l : Tree) → names_of l ≡ Some xs → Reads (InCall g args o ∷ frames) 0 us l → IsNames vs ys → ReadsArg frames g args o (us ++ Tilde ∷ vs) (Formula xs ys)
 read_arg_formula frames g args o us vs xs ys l e r d = record {
-    state = HaveWords g args o xs ys frames;
-    goes = subst (λ z. run (Want (InCall g args o ∷ frames)) z ≡ Some (HaveWords g args o xs ys frames)) (append_assoc us (Tilde ∷ []) vs)
+  state = HaveWords g args o xs ys frames;
+  goes = subst (λ z. run (Want (InCall g args o ∷ frames)) z ≡ Some (HaveWords g args o xs ys frames)) (append_assoc us (Tilde ∷ []) vs)
       (run_then (us ++ Tilde ∷ []) vs (Want (InCall g args o ∷ frames)) (NeedWord g args o xs [] frames) (Some (HaveWords g args o xs ys frames))
-        (read_then (InCall g args o ∷ frames) 0 us l Tilde tilde (NeedWord g args o xs [] frames) r (λ i z. refl) (ap (option_map (λ zs. NeedWord g args o zs [] frames)) e))
-        (read_words d g args o xs frames));
-    shuts = refl; commas = refl
-  }
+      (read_then (InCall g args o ∷ frames) 0 us l Tilde tilde (NeedWord g args o xs [] frames) r (λ i z. refl) (ap (option_map (λ zs. NeedWord g args o zs [] frames)) e))
+      (read_words d g args o xs frames));
+  shuts = refl;
+  commas = refl;
+}
 
 pub read_target : {ts : List Token} {o : Option Word} → IsTarget ts o → (frames : List Frame) (g : Word) (args : Args) → run (Want (InCall g args None ∷ frames)) ts ≡ Some (Want (InCall g args o ∷ frames))
 read_target without frames g args = refl
@@ -232,11 +254,12 @@ read_target named frames g args = refl
 
 pub read_some : (frames : List Frame) (g : Word) (us vs ws : List Token) (args : Args) (o : Option Word) (t : Tree) → run (Want (InCall g NoArgs None ∷ frames)) us ≡ Some (Want (InCall g args None ∷ frames)) → IsTarget vs o → ReadsArg frames g args o ws t → ReadsArgs frames g (us ++ (vs ++ ws)) (MoreArgs args o t)
 read_some frames g us vs ws args o t x n r = record {
-    state = r.state;
-    goes = run_then us (vs ++ ws) (Want (InCall g NoArgs None ∷ frames)) (Want (InCall g args None ∷ frames)) (Some r.state) x
+  state = r.state;
+  goes = run_then us (vs ++ ws) (Want (InCall g NoArgs None ∷ frames)) (Want (InCall g args None ∷ frames)) (Some r.state) x
       (run_then vs ws (Want (InCall g args None ∷ frames)) (Want (InCall g args o ∷ frames)) (Some r.state) (read_target n frames g args) r.goes);
-    shuts = r.shuts; commas = λ e. r.commas
-  }
+  shuts = r.shuts;
+  commas = λ e. r.commas;
+}
 
 pub read_call : (frames : List Frame) (x : Word) (ts : List Token) (args : Args) → ReadsArgs frames x ts args → run (Want frames) (Name x ∷ Open ∷ (ts ++ Shut ∷ [])) ≡ Some (Have frames (Call x args))
 read_call frames x ts args r = run_snoc ts Shut (Want (InCall x NoArgs None ∷ frames)) r.state (Have frames (Call x args)) r.goes r.shuts
@@ -260,10 +283,11 @@ read_items frames h us vs from f e r = record { state = r.state; goes = run_then
 -- an item that ends in an expression
 pub read_item_expr : (frames : List Frame) (h : Head) (g : Frame) (ts : List Token) (t : Tree) (f : Filled) → Reads (g ∷ frames) 0 ts t → item g t ≡ Some (h, f) → comma (g ∷ frames, t) ≡ option_map (λ i. next_item i.0 i.1 frames) (item g t) → ReadsItem frames h (Want (g ∷ frames)) ts f
 read_item_expr frames h g ts t f r e same = record {
-    state = Have r.inner r.last; goes = r.goes;
-    shuts = ap shut_square r.closes ∙ ap (option_map (λ i. Have frames (query i.0 i.1))) e;
-    commas = ap comma r.closes ∙ same ∙ ap (option_map (λ i. next_item i.0 i.1 frames)) e
-  }
+  state = Have r.inner r.last;
+  goes = r.goes;
+  shuts = ap shut_square r.closes ∙ ap (option_map (λ i. Have frames (query i.0 i.1))) e;
+  commas = ap comma r.closes ∙ same ∙ ap (option_map (λ i. next_item i.0 i.1 frames)) e;
+}
 
 -- an item may begin here
 unnamed_next : (h : Head) (f : Filled) (frames : List Frame) → takes_unnamed f ≡ true → next_item h f frames ≡ Want (InItem h f ∷ frames)
@@ -286,9 +310,10 @@ read_assigns frames h f us vs l r e x y =
     record {
       state = i.state;
       goes = subst (λ z. run (Want (InItem h f ∷ frames)) z ≡ Some i.state) (append_assoc us (Assign ∷ []) vs)
-        (run_then (us ++ Assign ∷ []) vs (Want (InItem h f ∷ frames)) (Want (InAssign h f l ∷ frames)) (Some i.state)
+          (run_then (us ++ Assign ∷ []) vs (Want (InItem h f ∷ frames)) (Want (InAssign h f l ∷ frames)) (Some i.state)
           (read_then (InItem h f ∷ frames) 0 us l Assign assign (Want (InAssign h f l ∷ frames)) x (λ j z. refl) (cond_true _ _ e)) i.goes);
-      shuts = i.shuts; commas = i.commas
+      shuts = i.shuts;
+      commas = i.commas;
     }
 
 read_empty : (frames : List Frame) (h : Head) (f : Filled) → ReadsItem frames h (Want (InItem h f ∷ frames)) [] (with_item f Absent)
@@ -314,7 +339,7 @@ pub read_bracket : (frames : List Frame) (us ts : List Token) (h : Head) (f : Fi
 read_bracket frames us ts h f w r =
     run_then us (OpenSquare ∷ (ts ++ ShutSquare ∷ [])) (Want frames) (Have frames w.last) (Some (Have frames (query h f))) w.goes
     (run_cons (Have frames w.last) OpenSquare (ts ++ ShutSquare ∷ []) (Want (InItem h Nothing ∷ frames)) (Some (Have frames (query h f))) (ap (λ z. Some (Want (InItem z Nothing ∷ frames))) w.same)
-      (run_snoc ts ShutSquare (Want (InItem h Nothing ∷ frames)) r.state (Have frames (query h f)) r.goes r.shuts))
+    (run_snoc ts ShutSquare (Want (InItem h Nothing ∷ frames)) r.state (Have frames (query h f)) r.goes r.shuts))
 
 mutual
   pub read : {k : ℕ} {ts : List Token} {t : Tree} → IsExpr k ts t → (frames : List Frame) → demand frames ≤ k → Reads frames k ts t
@@ -398,7 +423,7 @@ read_lines (line {us} {vs} {ws} {ss} {n} {o} {t} m d l e) =
     let end = Want (InStmt (ss ++ record { line = n; target = o; expr = t } ∷ []) m None ∷ []) in
     subst (λ z. run init (us ++ z) ≡ Some end) (append_assoc vs ws (Break m ∷ []))
     (run_then us ((vs ++ ws) ++ Break m ∷ []) init (Want (InStmt ss n None ∷ [])) (Some end) (read_lines d)
-      (run_snoc (vs ++ ws) (Break m) (Want (InStmt ss n None ∷ [])) (Have r.inner r.last) end r.goes (ap (break m) r.closes)))
+    (run_snoc (vs ++ ws) (Break m) (Want (InStmt ss n None ∷ [])) (Have r.inner r.last) end r.goes (ap (break m) r.closes)))
 
 -- what is spelled so is what the machine parses
 pub parsed_complete : {ts : List Token} {ss : List Stmt} → IsScript ts ss → parsed ts ≡ Some ss

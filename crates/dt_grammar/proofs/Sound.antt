@@ -1,11 +1,11 @@
 -- What the machine has read is what its state says.
-use Rattle.std.proofs.Common.{◌≡◌, ℕ, zero, suc, ◌≤◌, ◌<◌, ◌⊎◌, inl, inr, Bool, true, false, cond, List, [], ◌∷◌, ◌++◌, Option, Some, None, IfSome, option_and_then, option_map, refl, sym, ◌∙◌, ap, ap₂, subst, arith, append_assoc, append-nil, leb, leb-true, leb-false, nat_le, ◌==◌, eqb-true}
+use Rattle.std.proofs.Common.{◌≡◌, ℕ, zero, suc, ◌≤◌, ◌⊎◌, inl, inr, Bool, true, false, cond, List, [], ◌∷◌, ◌++◌, Option, Some, None, IfSome, option_and_then, option_map, refl, sym, ◌∙◌, ap, ap₂, subst, arith, append_assoc, append-nil, leb-true, leb-false, nat_le, ◌==◌, eqb-true}
 use Rattle.dt_base.specs.declared.operators.Op.TheVariants.{Add, Sub, Mul, Div, Mod, Eq, Ne, Lt, Le, Gt, Ge, And, Or}
 use Rattle.dt_tree.specs.declared.tree.BinOp.{BinOp}
 use Rattle.dt_tree.specs.declared.tree.BinOp.TheVariants.{Arith, In, Range}
-use Rattle.run_model.specs.GrammarTrees.{Word, Value, Prefix, Not, Negate, Token, Name, Literal, Operator, Bang, Tilde, Assign, Arrow, Is, Open, Shut, OpenSquare, ShutSquare, Comma, Break, Tree, Lit, Var, Paren, Unary, Chain, Tails, NoTails, MoreTails, Call, Query, Formula, Args, NoArgs, MoreArgs, Item, Absent, Given, Assigns, AssignsAll, Brackets, NoBrackets, MoreBrackets, Stmt}
-use Rattle.run_model.specs.Grammar.{level, is_single, prefix_level, prefix_token, post, prim, Filled, Nothing, UpToI, UpToJ, UpToBy, takes_unnamed, is_j, with_item, with_name, with_bracket, item_of, IsTarget, without, named, IsLeft, plain, arrow, IsNames, name, names, IsExpr, higher, chain, unary, literal, var, paren, call, bracket, IsTails, one, again, IsHead, bare, behind, IsArg, expr, formula, IsArgs, none, some, IsBefore, first, later, IsItem, empty, value, assigns, IsItems, unnamed, with, IsFilled, begin, comma as a_comma, IsLines, start, blank, line, IsScript, ended, open_end}
-use Rattle.dt_grammar.specs.Machine.{Head, head_of, query, Frame, Front, Left, InParen, InCall, InItem, InNamed, InAssign, InStmt, State, Want, Have, NeedName, NeedIs, NeedWord, HaveWords, demand, close, front, begin_chain, extend_chain, infix_op, tail_names, item_from, next_item, shut_none, shut_square_none, comma_none, break_none, shut, item, shut_square, comma_item, comma, break, assign, names_of, tilde, opens, name_top, naming, arrow_top, step, run, init, last_stmt, finish, parsed}
+use Rattle.run_model.specs.GrammarTrees.{Word, Prefix, Not, Negate, Token, Name, Literal, Operator, Bang, Tilde, Assign, Arrow, Is, Open, Shut, OpenSquare, ShutSquare, Comma, Break, Tree, Lit, Var, Paren, Unary, Chain, Tails, NoTails, MoreTails, Call, Query, Formula, Args, NoArgs, MoreArgs, Absent, Assigns}
+use Rattle.run_model.specs.Grammar.{level, is_single, prefix_level, prefix_token, post, prim, Filled, Nothing, UpToI, UpToJ, UpToBy, takes_unnamed, is_j, with_item, IsTarget, without, named, IsLeft, plain, arrow, IsNames, name, names, IsExpr, higher, chain, unary, literal, var, paren, call, bracket, IsTails, one, again, IsHead, bare, behind, expr, formula, IsArgs, none, some, IsBefore, first, later, IsItem, empty, value, assigns, IsItems, unnamed, with, IsFilled, begin, comma as a_comma, IsLines, start, blank, line, IsScript, ended, open_end}
+use Rattle.dt_grammar.specs.Machine.{Head, head_of, query, Frame, Front, Left, InParen, InCall, InItem, InNamed, InAssign, InStmt, State, Want, Have, NeedName, NeedIs, NeedWord, HaveWords, demand, close, front, begin_chain, extend_chain, infix_op, tail_names, item_from, next_item, shut_none, shut_square_none, comma_none, break_none, shut, item, shut_square, comma, break, assign, names_of, tilde, opens, name_top, naming, arrow_top, step, run, init, last_stmt, finish, parsed}
 
 -- operators and operands before this operator, of its level
 abbrev pub TailsBefore : List Token → Tails → BinOp → Type 0
@@ -133,15 +133,15 @@ close_sound [] k j us vs t o d dem le = absurd o
 close_sound (Front p ∷ rest) k j us vs t o d dem le =
     by_test (Closes (us ++ vs) k) (nat_le k (prefix_level p)) _ _
     (λ e.
-        let here = close_sound rest k (prefix_level p) o.0 (prefix_token p ∷ vs) (Unary p t) o.3 (unary p (lower j (suc (prefix_level p)) dem d)) o.2 (leb-true k (prefix_level p) e) in
-        subst (λ ts. Closes ts k (close k rest (Unary p t))) (sym (ap (λ z. z ++ vs) o.1 ∙ simp append_assoc)) here)
+    let here = close_sound rest k (prefix_level p) o.0 (prefix_token p ∷ vs) (Unary p t) o.3 (unary p (lower j (suc (prefix_level p)) dem d)) o.2 (leb-true k (prefix_level p) e) in
+    subst (λ ts. Closes ts k (close k rest (Unary p t))) (sym (ap (λ z. z ++ vs) o.1 ∙ simp append_assoc)) here)
     (λ e. record { us = us; vs = vs; whole = refl; opened = o; spelled = lower j k le d; low = leb-false k (prefix_level p) e })
 close_sound (Left l tails op ∷ rest) k j us vs t o d dem le =
     by_test (Closes (us ++ vs) k) (nat_le k (level op)) _ _
     (λ e.
-        let u = Chain l (MoreTails tails op t) in
-        let here = close_sound rest k (level op) o.0 (o.1 ++ (o.2 ++ Operator op ∷ vs)) u o.7 (chain o.4 (tails_on o.2 vs tails op t o.5 (lower j (suc (level op)) dem d))) o.6 (leb-true k (level op) e) in
-        subst (λ ts. Closes ts k (close k rest u)) (sym (ap (λ z. z ++ vs) o.3 ∙ simp append_assoc)) here)
+    let u = Chain l (MoreTails tails op t) in
+    let here = close_sound rest k (level op) o.0 (o.1 ++ (o.2 ++ Operator op ∷ vs)) u o.7 (chain o.4 (tails_on o.2 vs tails op t o.5 (lower j (suc (level op)) dem d))) o.6 (leb-true k (level op) e) in
+    subst (λ ts. Closes ts k (close k rest u)) (sym (ap (λ z. z ++ vs) o.3 ∙ simp append_assoc)) here)
     (λ e. record { us = us; vs = vs; whole = refl; opened = o; spelled = lower j k le d; low = leb-false k (level op) e })
 close_sound (InParen ∷ rest) k j us vs t o d dem le = record { us = us; vs = vs; whole = refl; opened = o; spelled = lower j k le d; low = omega arith }
 close_sound (InCall x args n ∷ rest) k j us vs t o d dem le = record { us = us; vs = vs; whole = refl; opened = o; spelled = lower j k le d; low = omega arith }
@@ -162,9 +162,16 @@ begin_sound ts op frames t c =
 extend_sound : (same single : Bool) (ts : List Token) (op : BinOp) (l : Tree) (tails : Tails) (o : BinOp) (rest : List Frame) (t : Tree) → (level o == level op) ≡ same → is_single op ≡ single → Closes ts (suc (level op)) (Left l tails o ∷ rest, t) → IfSome (extend_chain same single op l tails o rest t) (Reached (ts ++ Operator op ∷ []))
 extend_sound true false ts op l tails o rest t e f c =
     let w = c.opened in
-    let q : level o ≡ level op = eqb-true (level o) (level op) e in
-    (w.0, w.1, w.2 ++ Operator o ∷ c.vs, ap (λ z. z ++ Operator op ∷ []) (c.whole ∙ ap (λ z. z ++ c.vs) w.3) ∙ simp append_assoc, subst (λ n. IsExpr (suc n) w.1 l) q w.4,
-      (subst (λ n. IsTails n (w.2 ++ Operator o ∷ c.vs) (MoreTails tails o t)) q (tails_on w.2 c.vs tails o t w.5 (subst (λ n. IsExpr (suc n) c.vs t) (sym q) c.spelled)), f), subst (λ n. demand rest ≤ n) q w.6, w.7)
+    let q : level o ≡ level op = eqb-true (level o) (level op) e in (
+      w.0,
+      w.1,
+      w.2 ++ Operator o ∷ c.vs,
+      ap (λ z. z ++ Operator op ∷ []) (c.whole ∙ ap (λ z. z ++ c.vs) w.3) ∙ simp append_assoc,
+      subst (λ n. IsExpr (suc n) w.1 l) q w.4,
+      (subst (λ n. IsTails n (w.2 ++ Operator o ∷ c.vs) (MoreTails tails o t)) q (tails_on w.2 c.vs tails o t w.5 (subst (λ n. IsExpr (suc n) c.vs t) (sym q) c.spelled)), f),
+      subst (λ n. demand rest ≤ n) q w.6,
+      w.7,
+    )
 extend_sound true true ts op l tails o rest t e f c = tt
 extend_sound false _ ts op l tails o rest t e f c = begin_sound ts op (Left l tails o ∷ rest) t c
 
@@ -207,9 +214,13 @@ item_sound ts (InNamed h f x) rest t c =
 item_sound ts (InAssign h f l) rest t c =
     let o = c.opened in
     record {
-      us = o.0; hs = o.1; vs = o.2 ++ (o.3 ++ Assign ∷ c.vs);
-      whole = c.whole ∙ ap (λ z. z ++ c.vs) o.4 ∙ simp append_assoc; head = o.5;
-      items = unnamed o.6 (j_takes f o.8) (subst (λ b. IsItem b (o.3 ++ Assign ∷ c.vs) (Assigns l t)) (sym o.8) (assigns o.7 c.spelled)); opened = o.9
+      us = o.0;
+      hs = o.1;
+      vs = o.2 ++ (o.3 ++ Assign ∷ c.vs);
+      whole = c.whole ∙ ap (λ z. z ++ c.vs) o.4 ∙ simp append_assoc;
+      head = o.5;
+      items = unnamed o.6 (j_takes f o.8) (subst (λ b. IsItem b (o.3 ++ Assign ∷ c.vs) (Assigns l t)) (sym o.8) (assigns o.7 c.spelled));
+      opened = o.9;
     }
 item_sound ts _ rest t c = tt
 
@@ -292,7 +303,7 @@ tails_names (again {k} {us = ms} {vs} {rest} {r} op d same single d') us ys xs n
     let before = tails_names d us ys l.before n l.so in
     subst (λ z. IsNames z (ys ++ xs)) (append_assoc us ms (Operator op ∷ vs))
     (subst (λ z. IsNames ((us ++ ms) ++ z) (ys ++ xs)) (sym l.tokens)
-      (subst (λ z. IsNames ((us ++ ms) ++ Operator (Arith Add) ∷ Name l.last ∷ []) z) (append_assoc ys l.before (l.last ∷ []) ∙ ap (λ z. ys ++ z) l.same) (names l.last before)))
+    (subst (λ z. IsNames ((us ++ ms) ++ Operator (Arith Add) ∷ Name l.last ∷ []) z) (append_assoc ys l.before (l.last ∷ []) ∙ ap (λ z. ys ++ z) l.same) (names l.last before)))
 
 chain_names : (us vs : List Token) (l : Tree) (rest : Tails) (k j : ℕ) (xs : List Word) → IsExpr k us l → IsTails j vs rest → names_of (Chain l rest) ≡ Some xs → IsNames (us ++ vs) xs
 chain_names us vs (Var x) rest k j xs d d' e =

@@ -1,17 +1,15 @@
 -- The view of a code tree, form by form.
-use Rattle.std.proofs.Common.{◌≡◌, ◌≢◌, ℕ, Bool, true, false, List, [], ◌∷◌, ◌++◌, Option, Some, None, map, refl, sym, ◌∙◌, ap, subst, rules}
+use Rattle.std.proofs.Common.{◌≡◌, List, [], ◌∷◌, ◌++◌, Option, map, refl, ap, rules}
 use Rattle.dt_base.specs.declared.cell.Cell.{Cell}
 use Rattle.dt_base.specs.declared.cell.ColType.{ColType}
-use Rattle.dt_tree.specs.declared.tree.Expr.{Expr, the_lemmas, out-Expr, roll-Expr, roll-out-Expr}
-use Rattle.dt_tree.specs.declared.tree.Expr.TheOpen.{Expr-F}
-use Rattle.dt_tree.specs.declared.tree.Expr.TheOpen as layer
+use Rattle.dt_tree.specs.declared.tree.Expr.{Expr, the_lemmas}
 use Rattle.dt_tree.specs.declared.tree.Expr.TheVariants as code
 use Rattle.dt_tree.specs.declared.tree.Tail.{Tail}
 use Rattle.dt_tree.specs.declared.tree.Arg.{Arg}
 use Rattle.dt_tree.specs.declared.tree.Bracket.{Bracket, roll-Bracket}
 use Rattle.dt_tree.specs.declared.tree.Second.{Second}
 use Rattle.dt_tree.specs.declared.tree.Second.TheVariants as second
-use Rattle.run_model.specs.GrammarTrees.{Word, Typed, Null, Infinite, Not, Negate, Tree, Lit, Var, Paren, Unary, Chain, Call, Query, Formula, Tails, NoTails, MoreTails, Args, NoArgs, MoreArgs, Item, Absent, Given, Assigns, AssignsAll, Brackets, NoBrackets, MoreBrackets}
+use Rattle.run_model.specs.GrammarTrees.{Word, Typed, Null, Infinite, Not, Negate, Lit, Var, Paren, Unary, Chain, Call, Query, Formula, Tails, NoTails, MoreTails, Args, NoArgs, MoreArgs, Given, Assigns, AssignsAll, Brackets, NoBrackets, MoreBrackets}
 use Rattle.run_model.specs.TreeView.{tails_from, args_from, brackets_from, tree_of, item_of_second, arg_of, bracket_of, tail_of, tails_of, args_of, brackets_of, first_of, second_of}
 
 pub tree_of-Lit : (c : Cell) (k : ColType) → tree_of (code.Lit c k) ≡ Lit (Typed c k)

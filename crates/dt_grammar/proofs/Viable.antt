@@ -1,13 +1,10 @@
 -- Each state can be completed, and what the machine refuses begins no script.
-use Rattle.std.proofs.Common.{◌≡◌, ◌≢◌, ℕ, zero, suc, ◌+◌, ◌≤◌, ◌<◌, ◌⊎◌, inl, inr, Bool, true, false, cond, List, [], ◌∷◌, ◌++◌, length, take, drop, take-append-drop, Option, Some, None, IfSome, option_and_then, option_map, refl, sym, ◌∙◌, ap, subst, arith, append_assoc, append-nil, leb, nat_le, codes}
+use Rattle.std.proofs.Common.{◌≡◌, cond, List, [], ◌∷◌, ◌++◌, Some, None, IfSome, option_and_then, refl, ◌∙◌, ap, subst, codes}
 use Rattle.std.proofs.Math.Dec.{leb-zero}
-use Rattle.dt_base.specs.declared.operators.Op.TheVariants.{Add, Sub, Mul, Div, Mod, Eq, Ne, Lt, Le, Gt, Ge, And, Or}
-use Rattle.dt_tree.specs.declared.tree.BinOp.{BinOp}
-use Rattle.dt_tree.specs.declared.tree.BinOp.TheVariants.{Arith, In, Range}
-use Rattle.run_model.specs.GrammarTrees.{Word, Value, Null, Prefix, Not, Negate, Token, Name, Literal, Operator, Bang, Tilde, Assign, Arrow, Is, Open, Shut, OpenSquare, ShutSquare, Comma, Break, Tree, Lit, Var, Paren, Unary, Chain, Tails, NoTails, MoreTails, Call, Query, Formula, Args, NoArgs, MoreArgs, Item, Absent, Given, Assigns, AssignsAll, Brackets, NoBrackets, MoreBrackets, Stmt}
-use Rattle.run_model.specs.Grammar.{level, is_single, prefix_level, prefix_token, post, prim, Filled, Nothing, UpToI, UpToJ, UpToBy, takes_unnamed, is_j, with_item, with_name, with_bracket, item_of, IsTarget, without, named, IsLeft, plain, arrow, IsNames, name, names, IsExpr, higher, chain, unary, literal, var, paren, call, bracket, IsTails, one, again, IsHead, bare, behind, IsArg, expr, formula, IsArgs, none, some, IsBefore, first, later, IsItem, empty, value, assigns, IsItems, unnamed, with, IsFilled, begin, comma as a_comma, IsLines, start, blank, line, IsScript, ended, open_end}
-use Rattle.dt_grammar.specs.Machine.{Head, head_of, query, Frame, Front, Left, InParen, InCall, InItem, InNamed, InAssign, InStmt, State, Want, Have, NeedName, NeedIs, NeedWord, HaveWords, close, shut, shut_square, item, step, run, init, last_stmt, finish, parsed}
-use Rattle.run_model.specs.FirstFault.{IsViable, IsFirstFault}
+use Rattle.run_model.specs.GrammarTrees.{Null, Token, Name, Literal, Is, Shut, ShutSquare, Tree, Lit, Paren, Unary, Chain, MoreTails, Call, Formula, MoreArgs, Assigns, Stmt}
+use Rattle.run_model.specs.Grammar.{level, prefix_level, is_j, with_item, with_name, item_of, IsScript}
+use Rattle.dt_grammar.specs.Machine.{query, Frame, Front, Left, InParen, InCall, InItem, InNamed, InAssign, InStmt, State, Want, Have, NeedName, NeedIs, NeedWord, HaveWords, close, shut, shut_square, step, run, init, last_stmt, finish, parsed}
+use Rattle.run_model.specs.FirstFault.{IsViable}
 use Rattle.dt_grammar.proofs.Sound.{Opened, Reached, run_sound, init_reached, parsed_sound}
 use Rattle.dt_grammar.proofs.Complete.{run-append, parsed_complete}
 

@@ -1,1 +1,3 @@
+pub mod AllowedTrees
+pub mod Laws
 pub mod Machine

@@ -6,7 +6,7 @@
 --   init             the state before the first token
 --   finish s         the script, where the tokens end here
 --   parsed ts        the script that the tokens spell, by the machine
-use Rattle.std.specs.Prelude.{◌≡◌, ℕ, suc, ◌≤◌, Bool, true, false, List, [], ◌∷◌, ◌++◌, Option, Some, None, nat_le, if◌then◌else◌, option_and_then, option_map, ◌==◌, ◌&&◌}
+use Rattle.std.specs.Prelude.{ℕ, suc, Bool, true, false, List, [], ◌∷◌, ◌++◌, Option, Some, None, nat_le, if◌then◌else◌, option_and_then, option_map, ◌==◌}
 use Rattle.dt_base.specs.declared.operators.Op.TheVariants.{Add, Sub}
 use Rattle.dt_tree.specs.declared.tree.BinOp.{BinOp}
 use Rattle.dt_tree.specs.declared.tree.BinOp.TheVariants.{Arith}

@@ -1,5 +1,6 @@
-pub mod Spelling
-pub mod Table
-pub mod Vector
 pub mod Coercion
 pub mod Operations
+pub mod Spelling
+pub mod State
+pub mod Table
+pub mod Vector

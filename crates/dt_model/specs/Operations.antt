@@ -258,9 +258,9 @@ unary o a = typed (unary_type o a.kind) (Ok (map (unary_cell o) a.cells))
 -- all cells in order, as long as there are at most 16,777,216
 abbrev pub combined : Vector → Vector → Result Vector OpFault
 combined a b =
-  let t = common a.kind b.kind in
-  if nat_lt 16777216 (length a.cells + length b.cells) then Err TooManyRows
-  else Ok (record { kind = t; cells = map (brought t) a.cells ++ map (brought t) b.cells })
+    let t = common a.kind b.kind in
+    if nat_lt 16777216 (length a.cells + length b.cells) then Err TooManyRows
+    else Ok (record { kind = t; cells = map (brought t) a.cells ++ map (brought t) b.cells })
 
 abbrev pub is_logical : ColType → Bool
 is_logical ty.Lgl = true
@@ -280,15 +280,15 @@ goes_with n m = m == 1 || m == n
 -- test's, else Length with the test's length and the other. The result has the test's length.
 abbrev pub chosen : Vector → Vector → Vector → Result Vector OpFault
 chosen test a b =
-  let n = length test.cells in
-  let t = common a.kind b.kind in
-  if not (is_logical test.kind) then Err BadType
-  else (if not (goes_with n (length a.cells)) then Err (Length n (length a.cells))
-  else (if not (goes_with n (length b.cells)) then Err (Length n (length b.cells))
-  else Ok (record {
-    kind = t;
-    cells = at_places n (λ p. picked_by (cell_at test.cells p) (brought t (cell_for a.cells p)) (brought t (cell_for b.cells p)));
-  })))
+    let n = length test.cells in
+    let t = common a.kind b.kind in
+    if not (is_logical test.kind) then Err BadType
+    else (if not (goes_with n (length a.cells)) then Err (Length n (length a.cells))
+    else (if not (goes_with n (length b.cells)) then Err (Length n (length b.cells))
+    else Ok (record {
+      kind = t;
+      cells = at_places n (λ p. picked_by (cell_at test.cells p) (brought t (cell_for a.cells p)) (brought t (cell_for b.cells p)));
+    })))
 
 abbrev pub same_truth : Bool → Bool → Bool
 same_truth true y = y
@@ -305,8 +305,8 @@ same_cell _ _ = false
 -- for each cell of the first, whether the second has the same one, both in the common type
 abbrev pub contained : Vector → Vector → Vector
 contained a b =
-  let t = common a.kind b.kind in
-  record {
-    kind = ty.Lgl;
-    cells = map (λ c. is.Lgl (list_any (same_cell (brought t c)) (map (brought t) b.cells))) a.cells;
-  }
+    let t = common a.kind b.kind in
+    record {
+      kind = ty.Lgl;
+      cells = map (λ c. is.Lgl (list_any (same_cell (brought t c)) (map (brought t) b.cells))) a.cells;
+    }

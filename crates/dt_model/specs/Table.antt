@@ -1,11 +1,18 @@
 -- Plain tables: a list of columns and a list of rows.
---   ColumnHead           a column's name and type
---   PlainTable           the columns, the rows, the names of the key and of each index, the slots
---   row_at columns r     row r of columns that stand side by side, rows counted from 0
---   rows_of n columns    their first n rows
---   column_of c rows     column c of a list of rows
-use Rattle.std.specs.Prelude.{ℕ, List, map}
-use Rattle.std.specs.List.{range_with_len}
+--   ColumnHead             a column's name and type
+--   PlainTable             the columns, the rows, the names of the key and of each index, the slots
+--   row_at columns r       row r of columns that stand side by side, rows counted from 0
+--   rows_of n columns      their first n rows
+--   column_of c rows       column c of a list of rows
+--   heads_of names columns the columns' names and types
+--   name_at names c        the name at a place, counted from 0
+--   names_at names cols    the names at these places
+--   place_of name names    the first place of a name, if it is there
+--   is_repeated names c    whether the name at place c stands at a lesser place too
+--   first_repeated names   the least such place
+use Rattle.std.specs.Prelude.{ℕ, Bool, List, [], ◌∷◌, Option, map, take, find, position, slice_index_or, length}
+use Rattle.std.specs.List.{range_with_len, list_any}
+use Rattle.std.specs.Str.{bytes_eq}
 use Rattle.dt_base.specs.declared.cell.Cell.{Cell}
 use Rattle.dt_base.specs.declared.cell.ColType.{ColType}
 use Rattle.dt_model.specs.Vector.{Vector, cell_at}
@@ -35,3 +42,28 @@ rows_of n columns = map (row_at columns) (range_with_len 0 n)
 -- one column of a list of rows: the cell of each row at this place
 abbrev pub column_of : ℕ → List (List Cell) → List Cell
 column_of c rows = map (λ row. cell_at row c) rows
+
+-- the name and type of each column, in order
+abbrev pub heads_of : List (List ℕ) → List Vector → List ColumnHead
+heads_of (name ∷ names) (v ∷ columns) = record { name = name; kind = v.kind } ∷ heads_of names columns
+heads_of _ _ = []
+
+-- the name at a place; past the end it is empty, as no column's is
+abbrev pub name_at : List (List ℕ) → ℕ → List ℕ
+name_at names c = slice_index_or names c []
+
+-- the names at these places, in their order
+abbrev pub names_at : List (List ℕ) → List ℕ → List (List ℕ)
+names_at names = map (name_at names)
+
+-- the first place at which the name stands
+abbrev pub place_of : List ℕ → List (List ℕ) → Option ℕ
+place_of name = position (bytes_eq name)
+
+-- the name at this place stands at a lesser place too
+abbrev pub is_repeated : List (List ℕ) → ℕ → Bool
+is_repeated names c = list_any (bytes_eq (name_at names c)) (take c names)
+
+-- the least place whose name stands before it too
+abbrev pub first_repeated : List (List ℕ) → Option ℕ
+first_repeated names = find (is_repeated names) (range_with_len 0 (length names))

@@ -17,7 +17,9 @@ more_ascii b bs n small rest =
     let e : 1 + n ≡ suc n = omega arith in
     rw e (IsAscii-append (b ∷ []) (take n bs) (one_ascii b small) rest)
 
-by_test : (b : ℕ) (bs : List ℕ) (t : Bool) → is_in class.Name b ≡ t → IsAscii (take (run (is_in class.Name) bs) bs) → IsAscii (take (cond t (run (is_in class.Name) bs + 1) 0) (b ∷ bs))
+by_test : (b : ℕ) (bs : List ℕ) (t : Bool) → is_in class.Name b ≡ t →
+    IsAscii (take (run (is_in class.Name) bs) bs) →
+    IsAscii (take (cond t (run (is_in class.Name) bs + 1) 0) (b ∷ bs))
 by_test b bs true h rest = let e : run (is_in class.Name) bs + 1 ≡ 1 + run (is_in class.Name) bs = omega arith in rw e (more_ascii b bs _ (name_byte b h) rest)
 by_test b bs false h rest = λ i. omega arith
 
@@ -25,6 +27,7 @@ run_is_ascii : (s : List ℕ) → IsAscii (take (run (is_in class.Name) s) s)
 run_is_ascii [] = λ i. omega arith
 run_is_ascii (b ∷ bs) = by_test b bs (is_in class.Name b) refl (run_is_ascii bs)
 
-pub word_is_text : (s : List ℕ) → 0 < length s → slice_index s 0 < 128 → IsUtf8 (take (1 + run (is_in class.Name) (drop 1 s)) s)
+pub word_is_text : (s : List ℕ) → 0 < length s → slice_index s 0 < 128 →
+    IsUtf8 (take (1 + run (is_in class.Name) (drop 1 s)) s)
 word_is_text [] some small = absurd (omega arith)
 word_is_text (b ∷ bs) some small = IsUtf8-from_ascii _ (more_ascii b bs _ small (run_is_ascii bs))

@@ -14,7 +14,8 @@ same_byte b = grind (arith, nat_tests)
 pub other_byte : (b c : ℕ) → b ≢ c → (b == c) ≡ false
 other_byte b c h = grind (arith, nat_tests)
 
-body_len : (q : ℕ) (bs ts rest : List ℕ) → q ≢ 92 → IsBody q bs ts → text_len q false (bs ++ q ∷ rest) ≡ Some (length bs)
+body_len : (q : ℕ) (bs ts rest : List ℕ) → q ≢ 92 → IsBody q bs ts →
+    text_len q false (bs ++ q ∷ rest) ≡ Some (length bs)
 body_len q bs ts rest h (done {q = r}) = rw (same_byte r) refl
 body_len q bs ts rest h (straight {q = r} {bs = cs} {ts = us} b apart other more) =
     rw (other_byte b r apart, other_byte b 92 other) (ap ahead (body_len r cs us rest h more) ∙ ap Some (omega arith))
@@ -26,7 +27,8 @@ body_meaning q bs ts (done {q = r}) = refl
 body_meaning q bs ts (straight {q = r} {bs = cs} {ts = us} b apart other more) = rw (other_byte b 92 other) (ap (plain b) (body_meaning r cs us more))
 body_meaning q bs ts (escaped {q = r} {bs = cs} {ts = us} b c is more) = rw is (ap (onto (Some c)) (body_meaning r cs us more))
 
-pub body_read : (q : ℕ) (bs ts rest : List ℕ) → q ≢ 92 → IsBody q bs ts → text_at (q ∷ (bs ++ q ∷ rest)) ≡ Found (Spelled (Chr ts)) (length bs + 2)
+pub body_read : (q : ℕ) (bs ts rest : List ℕ) → q ≢ 92 → IsBody q bs ts →
+    text_at (q ∷ (bs ++ q ∷ rest)) ≡ Found (Spelled (Chr ts)) (length bs + 2)
 body_read q bs ts rest h is =
     ap (closed_text (q ∷ (bs ++ q ∷ rest))) (body_len q bs ts rest h is)
     ∙ ap (λ m. text_of (length bs) (meaning false m)) (take_at bs (q ∷ rest) (length bs) refl)
@@ -57,29 +59,34 @@ ahead_some : (o : Option ℕ) (n : ℕ) → ahead o ≡ Some n → (m : ℕ) × 
 ahead_some None n h = absurd (cc)
 ahead_some (Some m) n h = (m, refl, cc)
 
-onto_ok : (o : Option ℕ) (r : Result (List ℕ) ℕ) (ts : List ℕ) → onto o r ≡ Ok ts → (c : ℕ) × (us : List ℕ) × (o ≡ Some c) × (r ≡ Ok us) × (ts ≡ c ∷ us)
+onto_ok : (o : Option ℕ) (r : Result (List ℕ) ℕ) (ts : List ℕ) → onto o r ≡ Ok ts →
+    (c : ℕ) × (us : List ℕ) × (o ≡ Some c) × (r ≡ Ok us) × (ts ≡ c ∷ us)
 onto_ok None r ts h = absurd (cc)
 onto_ok (Some c) (Ok us) ts h = (c, us, refl, refl, cc)
 onto_ok (Some c) (Err n) ts h = absurd (cc)
 
-plain_ok : (b : ℕ) (r : Result (List ℕ) ℕ) (ts : List ℕ) → plain b r ≡ Ok ts → (us : List ℕ) × (r ≡ Ok us) × (ts ≡ b ∷ us)
+plain_ok : (b : ℕ) (r : Result (List ℕ) ℕ) (ts : List ℕ) → plain b r ≡ Ok ts →
+    (us : List ℕ) × (r ≡ Ok us) × (ts ≡ b ∷ us)
 plain_ok b (Ok us) ts h = (us, refl, cc)
 plain_ok b (Err n) ts h = absurd (cc)
 
 take_one_more : (b : ℕ) (s : List ℕ) (n m : ℕ) → n ≡ m + 1 → take n (b ∷ s) ≡ b ∷ take m s
 take_one_more b s n m e = let f : n ≡ suc m = omega arith in ap (λ k. take k (b ∷ s)) f
 
-spelt_quote : (q b : ℕ) (s : List ℕ) (n : ℕ) (ts : List ℕ) → b ≡ q → 0 ≡ n → meaning false (take n (b ∷ s)) ≡ Ok ts → Spelt q (b ∷ s) n ts
+spelt_quote : (q b : ℕ) (s : List ℕ) (n : ℕ) (ts : List ℕ) → b ≡ q → 0 ≡ n →
+    meaning false (take n (b ∷ s)) ≡ Ok ts → Spelt q (b ∷ s) n ts
 spelt_quote q b s n ts e zero_len is =
     let none : Ok [] ≡ Ok ts = ap (λ k. meaning false (take k (b ∷ s))) zero_len ∙ is in
     let empty : [] ≡ ts = cc in
     record { bs = []; rest = s; whole = ap (λ x. x ∷ s) e; len = zero_len; body = subst (IsBody q []) empty done }
 
-spelt_plain : (q b : ℕ) (s : List ℕ) (n m : ℕ) (ts us : List ℕ) → b ≢ q → b ≢ 92 → n ≡ m + 1 → ts ≡ b ∷ us → Spelt q s m us → Spelt q (b ∷ s) n ts
+spelt_plain : (q b : ℕ) (s : List ℕ) (n m : ℕ) (ts us : List ℕ) → b ≢ q → b ≢ 92 → n ≡ m + 1 → ts ≡ b ∷ us →
+    Spelt q s m us → Spelt q (b ∷ s) n ts
 spelt_plain q b s n m ts us apart other len text r =
     record { bs = b ∷ r.bs; rest = r.rest; whole = ap (λ x. b ∷ x) r.whole; len = omega (arith, r.len); body = subst (IsBody q (b ∷ r.bs)) (sym text) (straight b apart other r.body) }
 
-spelt_escaped : (q b : ℕ) (s : List ℕ) (n m : ℕ) (ts : List ℕ) → b ≡ 92 → n ≡ m + 1 → Escapes q s m ts → Spelt q (b ∷ s) n ts
+spelt_escaped : (q b : ℕ) (s : List ℕ) (n m : ℕ) (ts : List ℕ) → b ≡ 92 → n ≡ m + 1 → Escapes q s m ts →
+    Spelt q (b ∷ s) n ts
 spelt_escaped q b s n m ts is len r =
     let p = r.spelt in
     record {
@@ -93,7 +100,8 @@ spelt_escaped q b s n m ts is len r =
 len_quote : (q b : ℕ) (s : List ℕ) → (b == q) ≡ true → text_len q false (b ∷ s) ≡ Some 0
 len_quote q b s e = rw e refl
 
-len_more : (q b : ℕ) (s : List ℕ) (t : Bool) → (b == q) ≡ false → (b == 92) ≡ t → text_len q false (b ∷ s) ≡ ahead (text_len q t s)
+len_more : (q b : ℕ) (s : List ℕ) (t : Bool) → (b == q) ≡ false → (b == 92) ≡ t →
+    text_len q false (b ∷ s) ≡ ahead (text_len q t s)
 len_more q b s t e f = rw (e, f) refl
 
 meaning_backslash : (b : ℕ) (s : List ℕ) → (b == 92) ≡ true → meaning false (b ∷ s) ≡ meaning true s
@@ -103,7 +111,8 @@ meaning_plain : (b : ℕ) (s : List ℕ) → (b == 92) ≡ false → meaning fal
 meaning_plain b s e = rw e refl
 
 mutual
-  spelt : (s : List ℕ) (q n : ℕ) (ts : List ℕ) → q ≢ 92 → text_len q false s ≡ Some n → meaning false (take n s) ≡ Ok ts → Spelt q s n ts
+  spelt : (s : List ℕ) (q n : ℕ) (ts : List ℕ) → q ≢ 92 → text_len q false s ≡ Some n →
+      meaning false (take n s) ≡ Ok ts → Spelt q s n ts
   spelt [] q n ts h len is = absurd (cc)
   spelt (b ∷ s) q n ts h len is =
       ⊎_elim
@@ -126,7 +135,8 @@ mutual
       (eqb_tells b 92))
       (eqb_tells b q)
 
-  escapes : (s : List ℕ) (q n : ℕ) (ts : List ℕ) → q ≢ 92 → text_len q true s ≡ Some n → meaning true (take n s) ≡ Ok ts → Escapes q s n ts
+  escapes : (s : List ℕ) (q n : ℕ) (ts : List ℕ) → q ≢ 92 → text_len q true s ≡ Some n →
+      meaning true (take n s) ≡ Ok ts → Escapes q s n ts
   escapes [] q n ts h len is = absurd (cc)
   escapes (b ∷ s) q n ts h len is =
       let a = ahead_some (text_len q false s) n len in
@@ -134,15 +144,20 @@ mutual
       let k = onto_ok (escape b) (meaning false (take a.0 s)) ts f in
       record { b = b; c = k.0; tail = s; us = k.1; m = a.0; whole = refl; escape = k.2; text = k.4; len = a.2; spelt = spelt s q a.0 k.1 h a.1 k.3 }
 
-closed_found : (s : List ℕ) (o : Option ℕ) (ts : List ℕ) (n : ℕ) → closed_text s o ≡ Found (Spelled (Chr ts)) n → (m : ℕ) × (o ≡ Some m) × (n ≡ m + 2) × (meaning false (take m (drop 1 s)) ≡ Ok ts)
+closed_found : (s : List ℕ) (o : Option ℕ) (ts : List ℕ) (n : ℕ) →
+    closed_text s o ≡ Found (Spelled (Chr ts)) n →
+    (m : ℕ) × (o ≡ Some m) × (n ≡ m + 2) × (meaning false (take m (drop 1 s)) ≡ Ok ts)
 closed_found s None ts n h = absurd (cc)
 closed_found s (Some m) ts n h = by_meaning (meaning false (take m (drop 1 s))) refl h
   where
-    by_meaning : (r : Result (List ℕ) ℕ) → meaning false (take m (drop 1 s)) ≡ r → text_of m r ≡ Found (Spelled (Chr ts)) n → (k : ℕ) × (Some m ≡ Some k) × (n ≡ k + 2) × (meaning false (take k (drop 1 s)) ≡ Ok ts)
+    by_meaning : (r : Result (List ℕ) ℕ) → meaning false (take m (drop 1 s)) ≡ r →
+        text_of m r ≡ Found (Spelled (Chr ts)) n →
+        (k : ℕ) × (Some m ≡ Some k) × (n ≡ k + 2) × (meaning false (take k (drop 1 s)) ≡ Ok ts)
     by_meaning (Ok us) e g = let f : us ≡ ts = cc in (m, refl, cc, e ∙ ap Ok f)
     by_meaning (Err k) e g = absurd (cc)
 
-pub body_found : (q : ℕ) (s ts : List ℕ) (n : ℕ) → q ≢ 92 → text_at (q ∷ s) ≡ Found (Spelled (Chr ts)) n → (bs rest : List ℕ) × (s ≡ bs ++ q ∷ rest) × IsBody q bs ts × (n ≡ length bs + 2)
+pub body_found : (q : ℕ) (s ts : List ℕ) (n : ℕ) → q ≢ 92 → text_at (q ∷ s) ≡ Found (Spelled (Chr ts)) n →
+    (bs rest : List ℕ) × (s ≡ bs ++ q ∷ rest) × IsBody q bs ts × (n ≡ length bs + 2)
 body_found q s ts n h is =
     let a = closed_found (q ∷ s) (text_len q false s) ts n is in
     let r = spelt s q a.0 ts h a.1 a.3 in

@@ -17,7 +17,8 @@ pub record Same (xs ys : List Cut) (j k : ℕ) : Type 0 where
   pub pieces : xs ≡ ys
   pub place : j ≡ k
 
-same_cuts : (xs ys : List Cut) (s : List ℕ) (i j k : ℕ) → Cuts s i xs j → Cuts s i ys k → Stops s j → Stops s k → Same xs ys j k
+same_cuts : (xs ys : List Cut) (s : List ℕ) (i j k : ℕ) → Cuts s i xs j → Cuts s i ys k → Stops s j →
+    Stops s k → Same xs ys j k
 same_cuts [] [] s i j k c d p q = record { pieces = refl; place = sym c ∙ d }
 same_cuts [] (y ∷ ys) s i j k c d p q = absurd (p y (ap (λ n. first (drop n s)) (sym c) ∙ d.1))
 same_cuts (x ∷ xs) [] s i j k c d p q = absurd (q x (ap (λ n. first (drop n s)) (sym d) ∙ c.1))

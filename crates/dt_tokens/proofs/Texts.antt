@@ -17,11 +17,13 @@ abbrev pub joined : List ℕ → ℕ → Result (List ℕ) ℕ → Result (List 
 joined front n (Ok bs) = Ok (front ++ bs)
 joined front n (Err k) = Err (n + k)
 
-pub joined_plain : (r : Result (List ℕ) ℕ) (front : List ℕ) (n b : ℕ) → joined front n (plain b r) ≡ joined (front ++ b ∷ []) (n + 1) r
+pub joined_plain : (r : Result (List ℕ) ℕ) (front : List ℕ) (n b : ℕ) →
+    joined front n (plain b r) ≡ joined (front ++ b ∷ []) (n + 1) r
 joined_plain (Ok bs) front n b = ap Ok (sym (append_assoc front (b ∷ []) bs))
 joined_plain (Err k) front n b = ap Err (omega arith)
 
-pub joined_onto : (r : Result (List ℕ) ℕ) (front : List ℕ) (n b : ℕ) → joined front n (onto (Some b) r) ≡ joined (front ++ b ∷ []) (n + 2) r
+pub joined_onto : (r : Result (List ℕ) ℕ) (front : List ℕ) (n b : ℕ) →
+    joined front n (onto (Some b) r) ≡ joined (front ++ b ∷ []) (n + 2) r
 joined_onto (Ok bs) front n b = ap Ok (sym (append_assoc front (b ∷ []) bs))
 joined_onto (Err k) front n b = ap Err (omega arith)
 

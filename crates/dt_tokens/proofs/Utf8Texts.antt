@@ -21,12 +21,15 @@ not_backslash : (b : ℕ) → 128 ≤ b → (b == 92) ≡ false
 not_backslash b high = grind (arith, nat_tests)
 
 -- bytes past ASCII stand for themselves
-copied : (xs : List ℕ) (P : List ℕ → Type 0) (rest : List ℕ) → ((k : ℕ) → k < length xs → 128 ≤ get_or xs k 0) → IfOk (meaning false rest) (λ bs. P (xs ++ bs)) → IfOk (meaning false (xs ++ rest)) P
+copied : (xs : List ℕ) (P : List ℕ → Type 0) (rest : List ℕ) →
+    ((k : ℕ) → k < length xs → 128 ≤ get_or xs k 0) → IfOk (meaning false rest) (λ bs. P (xs ++ bs)) →
+    IfOk (meaning false (xs ++ rest)) P
 copied [] P rest high h = h
 copied (x ∷ xs) P rest high h =
     rw (not_backslash x (high 0 (omega arith))) (plain_if P (meaning false (xs ++ rest)) x (copied xs (λ bs. P (x ∷ bs)) rest (λ k l. high (suc k) (omega arith)) h))
 
-prefix_if : (front : List ℕ) → IsUtf8 front → (r : Result (List ℕ) ℕ) → IfOk r IsUtf8 → IfOk r (λ bs. IsUtf8 (front ++ bs))
+prefix_if : (front : List ℕ) → IsUtf8 front → (r : Result (List ℕ) ℕ) → IfOk r IsUtf8 →
+    IfOk r (λ bs. IsUtf8 (front ++ bs))
 prefix_if front u (Ok bs) h = IsUtf8-append front bs u h
 prefix_if front u (Err n) h = h
 
@@ -58,22 +61,26 @@ is_other b n less = grind (arith, nat_tests)
 escape_high : (b : ℕ) → 128 ≤ b → escape b ≡ None
 escape_high b high = rw (is_other b 110 (omega arith), is_other b 116 (omega arith), is_other b 114 (omega arith), is_other b 92 (omega arith), is_other b 34 (omega arith), is_other b 39 (omega arith)) refl
 
-escaped_high : (xs rest : List ℕ) → ((k : ℕ) → k < length xs → 128 ≤ get_or xs k 0) → 0 < length xs → IfOk (meaning true (xs ++ rest)) IsUtf8
+escaped_high : (xs rest : List ℕ) → ((k : ℕ) → k < length xs → 128 ≤ get_or xs k 0) → 0 < length xs →
+    IfOk (meaning true (xs ++ rest)) IsUtf8
 escaped_high [] rest high some = absurd (omega arith)
 escaped_high (x ∷ xs) rest high some = rw (escape_high x (high 0 (omega arith))) tt
 
-escaped_char : (c : ℕ) (rest : List ℕ) → IfOk (meaning false rest) IsUtf8 → IfOk (meaning true (encode c ++ rest)) IsUtf8
+escaped_char : (c : ℕ) (rest : List ℕ) → IfOk (meaning false rest) IsUtf8 →
+    IfOk (meaning true (encode c ++ rest)) IsUtf8
 escaped_char c rest h =
     ⊎_elim
     (λ small. rw (encode_ascii c small) (onto_if (escape c) (meaning false rest) (escape_small c) h))
     (λ high. escaped_high (encode c) rest (high_bytes c high) (omega (arith, length-encode c, (len_utf8_bounds c).0)))
     (order c 128)
 
-ascii_char : (c : ℕ) (rest : List ℕ) (t : Bool) → c < 128 → IfOk (meaning false rest) IsUtf8 → IfOk (meaning true rest) IsUtf8 → IfOk (cond t (meaning true rest) (plain c (meaning false rest))) IsUtf8
+ascii_char : (c : ℕ) (rest : List ℕ) (t : Bool) → c < 128 → IfOk (meaning false rest) IsUtf8 →
+    IfOk (meaning true rest) IsUtf8 → IfOk (cond t (meaning true rest) (plain c (meaning false rest))) IsUtf8
 ascii_char c rest true small h k = k
 ascii_char c rest false small h k = plain_if IsUtf8 (meaning false rest) c (prefix_if (c ∷ []) (one_text c small) (meaning false rest) h)
 
-text_char : (c : ℕ) (rest : List ℕ) → scalar c ≡ true → IfOk (meaning false rest) IsUtf8 → IfOk (meaning true rest) IsUtf8 → IfOk (meaning false (encode c ++ rest)) IsUtf8
+text_char : (c : ℕ) (rest : List ℕ) → scalar c ≡ true → IfOk (meaning false rest) IsUtf8 →
+    IfOk (meaning true rest) IsUtf8 → IfOk (meaning false (encode c ++ rest)) IsUtf8
 text_char c rest ok h k =
     ⊎_elim
     (λ small. rw (encode_ascii c small) (ascii_char c rest (c == 92) small h k))
@@ -84,7 +91,8 @@ pub both_true : (a b : Bool) → (a && b) ≡ true → (a ≡ true) × (b ≡ tr
 both_true true b h = (refl, h)
 both_true false b h = absurd (cc)
 
-both : (cs : List ℕ) → scalars cs ≡ true → IfOk (meaning false (encodes cs)) IsUtf8 × IfOk (meaning true (encodes cs)) IsUtf8
+both : (cs : List ℕ) → scalars cs ≡ true →
+    IfOk (meaning false (encodes cs)) IsUtf8 × IfOk (meaning true (encodes cs)) IsUtf8
 both [] h = (IsUtf8-nil, IsUtf8-nil)
 both (c ∷ cs) h =
     let parts = both_true (scalar c) (scalars cs) h in
@@ -95,13 +103,16 @@ both (c ∷ cs) h =
 pub meaning_text : (s : List ℕ) → IsUtf8 s → IfOk (meaning false s) IsUtf8
 meaning_text s u = subst (λ x. IfOk (meaning false x) IsUtf8) u.1.1 (both u.0 u.1.0).0
 
-pub meaning_done : (s out : List ℕ) (n i : ℕ) (escaped : Bool) → length s ≤ i → meaning false s ≡ joined out n (meaning escaped (drop i s)) → IsUtf8 s → IsUtf8 out
+pub meaning_done : (s out : List ℕ) (n i : ℕ) (escaped : Bool) → length s ≤ i →
+    meaning false s ≡ joined out n (meaning escaped (drop i s)) → IsUtf8 s → IsUtf8 out
 meaning_done s out n i escaped past is u =
     let e : meaning false s ≡ Ok (out ++ []) = is ∙ ap (λ xs. joined out n (meaning escaped xs)) (drop_all i s past) in
     subst IsUtf8 (append-nil out) (subst (λ r. IfOk r IsUtf8) e (meaning_text s u))
 
 -- what stands between two ASCII bytes of a text is UTF-8
-pub inside_text : (s : List ℕ) (at n : ℕ) → IsUtf8 s → at < length s → n + 1 < length (drop at s) → slice_index (drop at s) 0 < 128 → slice_index (drop at s) (n + 1) < 128 → IsUtf8 (take n (drop 1 (drop at s)))
+pub inside_text : (s : List ℕ) (at n : ℕ) → IsUtf8 s → at < length s → n + 1 < length (drop at s) →
+    slice_index (drop at s) 0 < 128 → slice_index (drop at s) (n + 1) < 128 →
+    IsUtf8 (take n (drop 1 (drop at s)))
 inside_text s at n u l within front back =
     let room = length-drop at s in
     let first = get_or-drop at s 0 0 ∙ ap (λ k. get_or s k 0) (add-zero at) in

@@ -17,15 +17,15 @@ first_at : (f : ℕ → Outcome) (n p : ℕ) → p < n → ((k : ℕ) → k < p 
 first_at f n p lt below here =
     let long = length-map-range_with_len f 0 n in
     position_or_len_is is_outside (at_places n f) p Outside (omega (arith, long))
-      (λ k h. ap is_outside (get_or-map-range_with_len f 0 n k k Outside (omega arith) (omega arith)) ∙ below k h)
-      (λ _. ap is_outside (get_or-map-range_with_len f 0 n p p Outside lt (omega arith)) ∙ here)
+    (λ k h. ap is_outside (get_or-map-range_with_len f 0 n k k Outside (omega arith) (omega arith)) ∙ below k h)
+    (λ _. ap is_outside (get_or-map-range_with_len f 0 n p p Outside lt (omega arith)) ∙ here)
 
 none_at : (f : ℕ → Outcome) (n : ℕ) → ((k : ℕ) → k < n → is_outside (f k) ≡ false) → position_or_len is_outside (at_places n f) ≡ n
 none_at f n below =
     let long = length-map-range_with_len f 0 n in
     position_or_len_is is_outside (at_places n f) n Outside (omega (arith, long))
-      (λ k h. ap is_outside (get_or-map-range_with_len f 0 n k k Outside h (omega arith)) ∙ below k h)
-      (λ h. absurd (omega (arith, long)))
+    (λ k h. ap is_outside (get_or-map-range_with_len f 0 n k k Outside h (omega arith)) ∙ below k h)
+    (λ h. absurd (omega (arith, long)))
 
 found : (q m p n : ℕ) (cells : List Cell) → q ≡ p → m ≡ n → p < n → unless_at (cond (ltb q m) (Some q) None) cells ≡ Err (Overflow p)
 found q m p n cells e long lt =
@@ -51,14 +51,14 @@ settled_all f n p cells before e =
 -- one more place
 pub settled_more : (f : ℕ → Outcome) (p : ℕ) (cells : List Cell) (c : Cell) → Settled f p cells → f p ≡ Gives c → Settled f (p + 1) (cells ++ c ∷ [])
 settled_more f p cells c h e = record {
-    inside = below_more _ _ h.inside (ap is_outside e);
-    cells_are = (let one : given (f p) ≡ c = ap given e in
+  inside = below_more _ _ h.inside (ap is_outside e);
+  cells_are = (let one : given (f p) ≡ c = ap given e in
       sym (ap (map given) (map-range_with_len_more f 0 p p (omega arith)) ∙ map-append given (at_places p f) (f p ∷ [])
-        ∙ ap (λ x. map given (at_places p f) ++ x ∷ []) one ∙ ap (λ xs. xs ++ c ∷ []) (sym h.cells_are)));
-  }
+      ∙ ap (λ x. map given (at_places p f) ++ x ∷ []) one ∙ ap (λ xs. xs ++ c ∷ []) (sym h.cells_are)));
+}
 
 -- the loop's step: one more word
 pub word_more : {W : Type 0} (cell : W → Cell) (f : ℕ → Outcome) (p : ℕ) (items new : List W) (w : W) →
-  Settled f p (map cell items) → f p ≡ Gives (cell w) → new ≡ items ++ w ∷ [] → Settled f (p + 1) (map cell new)
+    Settled f p (map cell items) → f p ≡ Gives (cell w) → new ≡ items ++ w ∷ [] → Settled f (p + 1) (map cell new)
 word_more cell f p items new w h e pushed =
     subst (λ xs. Settled f (p + 1) xs) (sym (ap (map cell) pushed ∙ map-append cell items (w ∷ []))) (settled_more f p (map cell items) (cell w) h e)

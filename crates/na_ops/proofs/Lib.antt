@@ -1,4 +1,9 @@
-pub mod Fill
 pub mod Answered
 pub mod Numbers
 pub mod Mixed
+pub mod Fill
+pub mod Lists
+pub mod Mixed
+pub mod Numbers
+pub mod Short
+pub mod Warnings

@@ -3,7 +3,7 @@ ghost use Rattle.dt_base.specs.Cell.{seen, IsOfType};
 ghost use Rattle.dt_model.specs.Vector.{IsVector, IsWithin, cell_at, gathered};
 ghost use Rattle.na_vector.specs.Words.{int_cell, lgl_cell, text_cell, text_count, IsLglWord, int_vector, lgl_vector, text_vector};
 
-use crate::gather::{gather_ints, gather_lgls, gather_texts};
+use crate::gather::{copied_texts, gather_ints, gather_lgls, gather_texts};
 use crate::words::{int_ref, int_word, lgl_ref, lgl_word, text_ref, text_word};
 use dt_base::{Cell, CellRef, ColType, Steps, Text};
 use std::alloc::{AllocError, Global};
@@ -231,6 +231,19 @@ impl Column {
             Store::Lgl(v) => Ok(Column::from_lgls(gather_lgls(alloc, v, rows)?)),
             Store::Int(v) => Ok(Column::from_ints(gather_ints(alloc, v, rows)?)),
             Store::Chr(v) => Column::from_texts(gather_texts(alloc, v, rows)?),
+        }
+    }
+
+    /// The same cells once more, in memory of their own. It touches each cell.
+    pub fn copy<L: Ledger>(&self, alloc: Global, steps: &mut Steps<L>) -> Result<Column, AllocError>
+        ensures ok { IfOk result (λ c. c.vector ≡ self.now.vector) }
+        ensures touches { steps.new ≡ steps.old + length self.now.vector.cells }
+    {
+        steps.ticks(self.len() as u64);
+        match &self.store {
+            Store::Lgl(v) => Ok(Column::from_lgls(Vec::from_slice(alloc, v)?)),
+            Store::Int(v) => Ok(Column::from_ints(Vec::from_slice(alloc, v)?)),
+            Store::Chr(v) => Column::from_texts(copied_texts(alloc, v)?),
         }
     }
 }

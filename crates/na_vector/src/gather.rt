@@ -90,3 +90,13 @@ pub fn gather_texts(
     }
     Ok(out)
 }
+
+pub fn copied_texts(alloc: Global, texts: &[Option<Text>]) -> Result<Vec<Option<Text>>, AllocError>
+    ensures { IfOk result (λ v. v.items ≡ texts.now) }
+{
+    let mut out = Vec::with_capacity(alloc, texts.len())?;
+    for text in texts {
+        out.push(copied_text(text)?)?;
+    }
+    Ok(out)
+}

@@ -1,2 +1,4 @@
-mod PrintedExamples
+mod CsvExamples
+mod FirstPathExamples
 mod MessageExamples
+mod PrintedExamples

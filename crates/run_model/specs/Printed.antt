@@ -84,9 +84,9 @@ head_at heads c = slice_index_or heads c (record { name = []; kind = ty.Lgl })
 abbrev pub label : ℕ → List ℕ
 label r = decimal r ++ codes ":"
 
--- the labels are as wide as the widest that is shown
+-- the labels are as wide as the widest that is shown; places count from 0
 abbrev pub label_width : ℕ → ℕ
-label_width n = greatest (map (λ r. characters (label r)) (shown (range_with_len 1 n)))
+label_width n = greatest (map (λ p. characters (label (p + 1))) (shown (range_with_len 0 n)))
 
 -- a column is as wide as the widest of its name and its shown cells
 abbrev pub column_width : List ColumnHead → List (List Cell) → ℕ → ℕ

@@ -13,12 +13,12 @@ returns-in_default-clause-value g c =
 -- one more place
 pub loop-p-preserved : goal.loop-p-preserved
 loop-p-preserved g c = record {
-    fine = subst (All g.W.Word.fine) (sym c.in_ok-add.ensures.ok)
+  fine = subst (All g.W.Word.fine) (sym c.in_ok-add.ensures.ok)
       (All-push g.W.Word.fine c.loop-p.out.items c.in-Some.w c.loop-p.invariant.fine c.in-Some.ensures.fine);
-    count = grind (arith, common_steps);
-    settled = word_more g.W.Word.cell _ c.loop-p.p c.loop-p.out.items c.add.new.list.items c.in-Some.w
+  count = grind (arith, common_steps);
+  settled = word_more g.W.Word.cell _ c.loop-p.p c.loop-p.out.items c.add.new.list.items c.in-Some.w
       c.loop-p.invariant.settled c.in-Some.ensures.word c.in_ok-add.ensures.ok;
-  }
+}
 
 -- all places
 pub returns-clause-value : goal.returns-clause-value

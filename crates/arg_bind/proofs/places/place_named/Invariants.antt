@@ -1,0 +1,7 @@
+use Rattle.std.proofs.Common.{◌≡◌, map, drop}
+use Rattle.session_model.specs.Meaning.{arg_meaning, names_in}
+use Rattle.session_model.specs.Binding.{named, unnamed}
+use Rattle.arg_bind.proofs.places.place_named.Given as goal
+
+abbrev pub invariant-loop-i : goal.invariant-loop-i
+invariant-loop-i l = named l.w 0 (names_in (map arg_meaning l.args)) ≡ named l.w l.i (names_in (map arg_meaning (drop l.i l.args)))

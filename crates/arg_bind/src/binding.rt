@@ -1,0 +1,145 @@
+ghost use Rattle.std.specs.Prelude.{◌≡◌, ◌<◌, ◌==◌, map, length, is_none, nat_lt};
+ghost use Rattle.session_model.specs.Meaning.{arg_meaning, names_in};
+ghost use Rattle.session_model.specs.Binding.{free_count, unnamed_count, place_of, places, is_formal, is_bad, names_fine, missing_word, all_there, word_in, counted, bound_to_formals, bound};
+ghost use Rattle.arg_bind.specs.Answers.{Answers};
+
+use crate::fail::{EvalFail, stop};
+use crate::places::{is_free_formal, is_unnamed, next, place, place_named};
+use dt_base::Code;
+use dt_tree::Arg;
+use func_table::{Arity, Formal, Func, arity_of, formal_word, formals, func_word};
+use std::alloc::Global;
+
+fn count_free(args: &[Arg], ps: &[Formal]) -> usize
+    ensures { result ≡ free_count (names_in (map arg_meaning args.now)) ps.now }
+{
+    let mut n = 0;
+    for p in ps {
+        if is_free_formal(args, *p) {
+            n += 1;
+        }
+    }
+    n
+}
+
+fn count_unnamed(args: &[Arg]) -> usize
+    ensures { result ≡ unnamed_count (names_in (map arg_meaning args.now)) }
+{
+    let mut n = 0;
+    for a in args {
+        if is_unnamed(a) {
+            n += 1;
+        }
+    }
+    n
+}
+
+fn stands_in(w: &str, ps: &[Formal]) -> bool
+    ensures { result ≡ is_formal w.now ps.now }
+{
+    for p in ps {
+        if formal_word(*p) == w {
+            return true;
+        }
+    }
+    false
+}
+
+/// Whether the name of the argument at place i is unknown, or bound before.
+fn is_refused(args: &[Arg], ps: &[Formal], i: usize, a: &Arg) -> bool
+    ensures { result ≡ is_bad (names_in (map arg_meaning args.now)) ps.now i (arg_meaning a.now).name }
+{
+    match &a.name {
+        None => false,
+        Some(w) => {
+            if !stands_in(w.as_str(), ps) {
+                return true;
+            }
+            match place_named(args, w.as_str()) {
+                None => false,
+                Some(k) => k != i,
+            }
+        }
+    }
+}
+
+fn word_of_name(a: &Arg) -> &str
+    ensures { result.now ≡ word_in (arg_meaning a.now).name }
+{
+    match &a.name {
+        None => "",
+        Some(w) => w.as_str(),
+    }
+}
+
+fn check_names(alloc: Global, args: &[Arg], ps: &[Formal]) -> Result<(), EvalFail>
+    ensures { Answers (names_fine (names_in (map arg_meaning args.now)) ps.now 0 (names_in (map arg_meaning args.now))) result }
+{
+    for (i, a) in args.iter().enumerate() {
+        if is_refused(args, ps, i, a) {
+            return Err(stop(alloc, Code::E19, word_of_name(a)));
+        }
+    }
+    Ok(())
+}
+
+fn is_missing(args: &[Arg], before: usize, p: Formal) -> bool
+    ensures { result ≡ is_none (place_of (names_in (map arg_meaning args.now)) before p) }
+{
+    place(args, before, p).is_none()
+}
+
+/// What names a formal that lacks its argument.
+fn word_for(f: Func, p: Formal) -> &'static str
+    ensures { result.now ≡ missing_word f p }
+{
+    let word = formal_word(p);
+    if word == "" { func_word(f) } else { word }
+}
+
+fn check_there(alloc: Global, f: Func, args: &[Arg], ps: &[Formal]) -> Result<(), EvalFail>
+    requires { length ps.now < 1000 }
+    ensures { Answers (all_there f (places (names_in (map arg_meaning args.now)) 0 ps.now)) result }
+{
+    let mut before = 0;
+    for p in ps {
+        if is_missing(args, before, *p) {
+            return Err(stop(alloc, Code::E19, word_for(f, *p)));
+        }
+        before = next(args, before, *p);
+    }
+    Ok(())
+}
+
+fn check_count(alloc: Global, f: Func, is_wrong: bool) -> Result<(), EvalFail>
+    ensures { Answers (counted f is_wrong) result }
+{
+    if is_wrong {
+        return Err(stop(alloc, Code::E19, func_word(f)));
+    }
+    Ok(())
+}
+
+fn bind_formals(alloc: Global, f: Func, args: &[Arg]) -> Result<(), EvalFail>
+    ensures { Answers (bound_to_formals f (names_in (map arg_meaning args.now))) result }
+{
+    let ps = formals(f);
+    check_names(alloc, args, ps)?;
+    check_there(alloc, f, args, ps)?;
+    check_count(alloc, f, count_free(args, ps) < count_unnamed(args))
+}
+
+/// Nothing, or the first fault of binding these arguments to a function's formals.
+///
+/// To formals: a name that is unknown or bound twice (E19 with the name, in the order written), then
+/// a formal without an argument (E19 with its name, or the function's where the formal has none),
+/// then too many arguments (E19 with the function's name). As columns: no argument at all (E19 with
+/// the function's name). dtq's own rule, docs/LANGUAGE.md, section "Calls".
+pub fn bind(alloc: Global, f: Func, args: &[Arg]) -> Result<(), EvalFail>
+    ensures { Answers (bound f (names_in (map arg_meaning args.now))) result }
+{
+    match arity_of(f) {
+        Arity::Fixed => bind_formals(alloc, f, args),
+        Arity::Columns => check_count(alloc, f, args.is_empty()),
+    }
+}

@@ -1,0 +1,10 @@
+pub mod ColumnFacts
+pub mod FieldFacts
+pub mod LeftFacts
+pub mod NameFacts
+pub mod NamesFacts
+pub mod OneRecord
+pub mod RowFacts
+pub mod Sizes
+pub mod TableFacts
+pub mod TextFacts

@@ -1,0 +1,19 @@
+use Rattle.std.proofs.Common.{get_or, length, ◌∙◌, arith}
+use Rattle.csv.specs.Records.{fields_of}
+use Rattle.csv_edge.specs.Left.{left}
+use Rattle.csv_edge.proofs.RowFacts.{rows_fault_next, fields_next}
+use Rattle.csv_edge.proofs.columns.read_rows.Goals as goal
+
+-- a record more was taken, and it has no fault
+pub loop-raw-preserved : goal.loop-raw-preserved
+loop-raw-preserved c =
+    let rest = rw c.if-branch.true at c.in_ok-next_record.ensures.record in
+    let row = fields_of c.next_record.new.row in
+    let after = left c.next_record.new.rdr in
+    let before = left c.loop-raw.rdr in (
+      c.in_ok-next_record.ensures.open c.if-branch.true,
+      rows_fault_next (length c.args.columns.now) (length c.loop-raw.columns) c.loop-raw.before row after before rest c.loop-raw.auto.columns c.in_ok-row.ensures.right ∙ c.loop-raw.invariant.1,
+      (λ k d h. fields_next (fields_of (get_or c.loop-raw.columns k d)) (fields_of (get_or c.push_row.new.columns k d)) k row (fields_of c.in_ok-row.row) after before
+          rest c.in_ok-row.ensures.fields (c.in_ok-push_row.ensures k d (omega (arith, c.loop-raw.auto.columns))) ∙ c.loop-raw.invariant.2 k d h),
+      omega (arith, c.in_ok-row.ensures.room),
+    )

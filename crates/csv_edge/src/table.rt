@@ -1,0 +1,47 @@
+ghost use Rattle.std.specs.Prelude.{◌≡◌, ◌*◌, ◌≤◌, IfOk, length};
+ghost use Rattle.csv.specs.Records.{fields_of};
+ghost use Rattle.dt_table.specs.Plain.{plain};
+ghost use Rattle.dt_table.specs.Table.{made};
+ghost use Rattle.run_model.specs.Csv.{no_table};
+ghost use Rattle.run_model.specs.CsvNames as file;
+
+use crate::names::{column_names, name_warns};
+use csv::StringRecord;
+use dt_base::Warns;
+use dt_table::{MakeFail, Table};
+use na_vector::Frame;
+use std::alloc::{AllocError, Global};
+
+/// The table of a frame under the names that a header gives, with the warning where a name is not
+/// its header.
+pub(crate) fn named_table(
+    alloc: Global,
+    header: &StringRecord,
+    frame: Frame,
+) -> Result<(Table, Warns), AllocError>
+    requires width { length frame.columns ≡ length (fields_of header.now) }
+    requires columns { length (fields_of header.now) ≤ 4096 }
+    requires rows { frame.rows ≤ 16777216 }
+    requires cells { frame.rows * length frame.columns ≤ 67108864 }
+    ensures table { IfOk result (λ p. p.0 ≡ made (file.column_names (fields_of header.now)) frame) }
+    ensures warns { IfOk result (λ p. p.1 ≡ file.name_warns (fields_of header.now)) }
+{
+    let names = column_names(alloc, header)?;
+    let warns = name_warns(&names, header);
+    match Table::make(alloc, names, frame) {
+        Ok(table) => Ok((table, warns)),
+        Err(MakeFail::NoMemory(e)) => Err(e),
+        Err(_) => unreachable!(),
+    }
+}
+
+/// The table of a file without a record: it has no columns.
+pub(crate) fn no_columns(alloc: Global) -> Result<Table, AllocError>
+    ensures { IfOk result (λ table. plain table ≡ no_table) }
+{
+    match Table::make(alloc, Vec::new(alloc), Frame::new(alloc)) {
+        Ok(table) => Ok(table),
+        Err(MakeFail::NoMemory(e)) => Err(e),
+        Err(_) => unreachable!(),
+    }
+}

@@ -1,0 +1,4 @@
+pub mod Chains
+pub mod Firsts
+pub mod Parts
+pub mod Walk

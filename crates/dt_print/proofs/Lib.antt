@@ -1,0 +1,4 @@
+pub mod Framing
+pub mod Spans
+pub mod Tables
+pub mod Warned

@@ -1,0 +1,3 @@
+pub mod FrameViews
+pub mod StepViews
+pub mod Sums

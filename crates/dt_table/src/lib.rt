@@ -1,0 +1,26 @@
+//! Tables: named columns of one length, with a key, indices and column slots.
+//!
+//! - `Table::make` takes the names and a frame, and refuses a name that stands twice, too many
+//!   rows, too many cells and too many columns, in this order (`MakeFail`). `copy` gives the same
+//!   table once more.
+//! - `frame`, `names`, `name` and `place` read the columns and their names; `key`, `index_count` and
+//!   `index` the orders that the table keeps; `slots` is how many columns it may have.
+//!
+//! It stands on `dt_base`, `dt_model` and `na_vector`. It promises that the names of every table are
+//! distinct and not empty, that rows, cells and columns are within their limits (`IsTable`), and that
+//! each call answers by the parts of the table that contracts see; `plain` is the plain reading of
+//! these parts, row by row. Making is linear in the names, copying in the cells, and `place` looks at
+//! the names in order.
+#![tactic(auto)]
+
+mod copies;
+mod index;
+mod make;
+mod table;
+
+pub use index::Index;
+pub use make::MakeFail;
+pub use table::Table;
+
+#[cfg(test)]
+mod tests;

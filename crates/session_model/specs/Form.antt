@@ -1,0 +1,45 @@
+-- What an expression is as written, where an argument wants a form and not a value.
+--   Form          a literal, the negative of an integer literal, `NULL`, `Inf`, a bare name, or else
+--   negative f    the integer that `-` before this form writes, if it is an integer literal
+--   is_literal f  the form is a literal, with `-` before an integer allowed
+--   text_in f     the text of a text literal; NA is none
+use Rattle.std.specs.Prelude.{ℤ, neg_ℤ, Bool, true, false, List, ℕ, Option, None, Some}
+use Rattle.dt_base.specs.declared.cell.Cell.{Cell}
+use Rattle.dt_base.specs.declared.cell.Cell.TheVariants as is
+use Rattle.dt_base.specs.declared.cell.ColType.{ColType}
+
+-- an expression as written
+pub data Form : Type 0 where
+  Literal : Cell → ColType → Form
+  Negative : ℤ → Form
+  NullWord : Form
+  InfWord : Form
+  BareName : List ℕ → Form
+  Other : Form
+
+-- what `-` before an integer literal writes
+abbrev pub negative : Form → Option ℤ
+negative (Literal (is.Int n) kind) = Some (neg_ℤ n)
+negative _ = None
+
+-- a literal, with `-` before an integer allowed
+abbrev pub is_literal : Form → Bool
+is_literal (Literal cell kind) = true
+is_literal (Negative n) = true
+is_literal NullWord = true
+is_literal InfWord = true
+is_literal _ = false
+
+abbrev pub is_bare_name : Form → Bool
+is_bare_name (BareName name) = true
+is_bare_name _ = false
+
+-- the text of a text literal; `NA_character_` has none
+abbrev pub text_in : Form → Option (List ℕ)
+text_in (Literal (is.Text t) kind) = Some t
+text_in _ = None
+
+-- the name of a bare name
+abbrev pub name_in : Form → Option (List ℕ)
+name_in (BareName name) = Some name
+name_in _ = None

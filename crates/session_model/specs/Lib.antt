@@ -1,0 +1,9 @@
+pub mod Binding
+pub mod Effect
+pub mod Evaluation
+pub mod Form
+pub mod Meaning
+pub mod Statement
+pub mod Then
+pub mod Value
+pub mod World

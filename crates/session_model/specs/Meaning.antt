@@ -1,0 +1,237 @@
+-- What expressions and calls mean.
+--   Meaning             an expression: its form, whether it is served, what it gives, and what it
+--                       does where it is the call of a command
+--   ArgMeaning          an argument: its name, and the meaning of its value
+--   data_table args     what `data.table` gives
+--   table_call f        what the call of a table function gives
+--   command f           what the call of a command does
+--   call_served         whether statements serve a call
+--   meaning e           the meaning of an expression
+-- A form that no statement serves yet has the fault `unbuilt`; `served` tells it before anything
+-- else is looked at.
+use Rattle.std.specs.Prelude.{ℕ, ◌+◌, ◌&&◌, not, cond, Bool, true, false, List, [], ◌∷◌, map, Option, None, Some, Result, Ok, Err, codes, decimal, slice_get}
+use Rattle.std.specs.List.{list_all}
+use Rattle.std.specs.Str.{bytes_eq}
+use Rattle.std.specs.FinMap as finite
+use Rattle.dt_base.specs.declared.cell.Cell.TheVariants as is
+use Rattle.dt_base.specs.declared.cell.ColType.TheVariants as ty
+use Rattle.dt_base.specs.declared.fault.Fault.{Fault}
+use Rattle.dt_base.specs.declared.fault.Code.TheVariants.{E02, E04, E19}
+use Rattle.dt_base.specs.Fault.{fault}
+use Rattle.dt_base.specs.Warns.{no_warns}
+use Rattle.dt_model.specs.Vector.{Vector}
+use Rattle.dt_tree.specs.declared.tree.Expr.{Expr, fold-Expr}
+use Rattle.dt_tree.specs.declared.tree.Expr.TheFolds.{fold-Arg}
+use Rattle.dt_tree.specs.declared.tree.Expr.TheOpen.{Expr-F, Arg-F}
+use Rattle.dt_tree.specs.declared.tree.Arg.{Arg}
+use Rattle.func_table.specs.declared.func.Func.{Func}
+use Rattle.func_table.specs.declared.func.Func.TheVariants as func
+use Rattle.func_table.specs.declared.func.Kind.{Kind}
+use Rattle.func_table.specs.declared.func.Kind.TheVariants as kind
+use Rattle.func_table.specs.declared.formal.Formal.{Formal}
+use Rattle.func_table.specs.declared.formal.Formal.TheVariants as formal
+use Rattle.func_table.specs.Calls.{func_of, word_of, kind_of, is_later}
+use Rattle.run_model.specs.Csv.{written_csv}
+use Rattle.dt_model.specs.State.{Bound}
+use Rattle.session_model.specs.Then.{then_do}
+use Rattle.session_model.specs.Form.{Form, Literal, Negative, NullWord, InfWord, BareName, Other, negative, is_literal, is_bare_name, text_in, name_in}
+use Rattle.session_model.specs.Binding.{ArgNames, bound, place_of, is_free}
+use Rattle.session_model.specs.Value.{Value, Numbered, New, Cells, Null, Given, Scene, gives_value, one_cell, bound_value, new_table, gives_table, file_table, wanted_table, copied, printed_value}
+use Rattle.session_model.specs.Effect.{Effect, Remove, prints, writes, changes, does_nothing}
+
+-- An expression: what it is as written, whether statements serve all of its forms, and what it gives
+-- as a value. The call of a command has its name, and what it does as a whole statement.
+pub record Meaning : Type 0 where
+  pub form : Form
+  pub served : Bool
+  pub gives : Scene → Result Given Fault
+  pub command : Option (List ℕ × (Scene → Result Effect Fault))
+
+-- an argument
+pub record ArgMeaning : Type 0 where
+  pub name : Option (List ℕ)
+  pub means : Meaning
+
+-- the fault of a form that no statement serves yet
+abbrev pub unbuilt : Fault
+unbuilt = fault E19 (codes "unbuilt")
+
+-- ---- `data.table`
+
+-- The vector of a literal. The two words without a type are faults.
+abbrev pub literal_vector : Form → Result Vector Fault
+literal_vector (Literal cell kind) = Ok (one_cell kind cell)
+literal_vector (Negative n) = Ok (one_cell ty.Int (is.Int n))
+literal_vector NullWord = Err (fault E04 (codes "NULL"))
+literal_vector InfWord = Err (fault E04 (codes "Inf"))
+literal_vector _ = Err unbuilt
+
+-- a list, and one more in front
+abbrev pub onto : {A : Type 0} → A → Result (List A) Fault → Result (List A) Fault
+onto x (Ok xs) = Ok (x ∷ xs)
+onto x (Err f) = Err f
+
+-- the vectors of arguments, or the first fault among them
+abbrev pub argument_vectors : List ArgMeaning → Result (List Vector) Fault
+argument_vectors [] = Ok []
+argument_vectors (a ∷ rest) = then_do (literal_vector a.means.form) (λ v. onto v (argument_vectors rest))
+
+-- a column has the name that is written, and else V and its place, counted from 1
+abbrev pub column_name : ℕ → Option (List ℕ) → List ℕ
+column_name p None = 86 ∷ decimal p
+column_name p (Some name) = name
+
+-- the names of columns, of which the first stands at place p
+abbrev pub column_names : ℕ → List ArgMeaning → List (List ℕ)
+column_names p [] = []
+column_names p (a ∷ rest) = column_name p a.name ∷ column_names (p + 1) rest
+
+-- `data.table` of literals: a table of one row
+abbrev pub data_table : List ArgMeaning → Result Given Fault
+data_table args =
+    then_do (argument_vectors args) (λ vectors.
+    then_do (new_table (column_names 1 args) 1 vectors) gives_table)
+
+-- ---- Forms of arguments
+
+-- a file's name is a text literal
+abbrev pub named_file : Form → Result (List ℕ) Fault
+named_file form = elim (text_in form) [ None ↦ Err (fault E19 (codes "file")) | Some file ↦ Ok file ]
+
+-- a package's name stands bare, and there is one
+abbrev pub known_package : Form → Result Effect Fault
+known_package (BareName name) = cond (bytes_eq name (codes "data.table")) (Ok does_nothing) (Err (fault E19 (codes "package")))
+known_package _ = Err (fault E19 (codes "package"))
+
+-- a name stands bare
+abbrev pub bare_name : Form → Result (List ℕ) Fault
+bare_name form = elim (name_in form) [ None ↦ Err (fault E19 (codes "name")) | Some name ↦ Ok name ]
+
+-- ---- Calls
+
+abbrev pub arg_name : ArgMeaning → Option (List ℕ)
+arg_name a = a.name
+
+-- the names of arguments, as written
+abbrev pub names_in : List ArgMeaning → ArgNames
+names_in args = map arg_name args
+
+-- What the argument of a formal gives, where `before` formals before it are free. A call whose
+-- arguments are bound has one for each formal.
+abbrev pub at_place : {A : Type 0} → List ArgMeaning → Option ℕ → (Meaning → Result A Fault) → Result A Fault
+at_place args None k = Err unbuilt
+at_place args (Some i) k = elim (slice_get args i) [ None ↦ Err unbuilt | Some a ↦ k a.means ]
+
+abbrev pub argument : {A : Type 0} → List ArgMeaning → ℕ → Formal → (Meaning → Result A Fault) → Result A Fault
+argument args before p k = at_place args (place_of (names_in args) before p) k
+
+-- a table function, once its arguments are bound
+abbrev pub table_call : Func → List ArgMeaning → Scene → Result Given Fault
+table_call func.DataTable args w = data_table args
+table_call func.Fread args w =
+    argument args 0 formal.File (λ a. then_do (named_file a.form) (file_table w.files))
+table_call func.Copy args w =
+    argument args 0 formal.Table (λ a. then_do (a.gives w) (λ g. then_do (wanted_table w.state g.value) (λ t. gives_table (copied t))))
+table_call _ args w = Err unbuilt
+
+-- a command gives no value
+abbrev pub call_of_kind : Kind → Func → List ArgMeaning → Scene → Result Given Fault
+call_of_kind kind.Command f args w = Err (fault E19 (word_of f))
+call_of_kind kind.Table f args w = then_do (bound f (names_in args)) (λ _. table_call f args w)
+
+-- the function's name comes before its arguments
+abbrev pub call_value : List ℕ → Option Func → List ArgMeaning → Scene → Result Given Fault
+call_value name None args w = Err (fault E02 name)
+call_value name (Some f) args w = call_of_kind (kind_of f) f args w
+
+-- `data.table` is served of literals, and `copy` of a bare name
+abbrev pub fits_args : Option Func → List ArgMeaning → Bool
+fits_args (Some func.DataTable) args = list_all (λ a. is_literal a.means.form) args
+fits_args (Some func.Copy) args = list_all (λ a. is_bare_name a.means.form) args
+fits_args _ args = true
+
+-- a call is served where its function is, and each argument, and its arguments are of that form
+abbrev pub call_served : List ℕ → List ArgMeaning → Bool
+call_served name args = not (is_later name) && (list_all (λ a. a.means.served) args && fits_args (func_of name) args)
+
+-- ---- Commands
+
+-- NULL is no value of an argument
+abbrev pub not_null : Value → Result Effect Fault → Result Effect Fault
+not_null Null r = Err (fault E04 (codes "NULL"))
+not_null _ r = r
+
+-- what prints: any value but NULL
+abbrev pub printed_given : Scene → Given → Result Effect Fault
+printed_given w g = not_null g.value (Ok (prints (printed_value w.state g.value) g.warns))
+
+-- the table is written as a file
+abbrev pub written_given : Scene → Given → Form → Result Effect Fault
+written_given w g file =
+    then_do (wanted_table w.state g.value) (λ t.
+    then_do (named_file file) (λ name. Ok (writes name (written_csv t) g.warns)))
+
+-- a name that is bound is removed
+abbrev pub removed_name : List ℕ → Option Bound → Result Effect Fault
+removed_name name None = Err (fault E02 name)
+removed_name name (Some b) = Ok (changes (Remove name))
+
+-- a command, once its arguments are bound
+abbrev pub command : Func → List ArgMeaning → Scene → Result Effect Fault
+command func.Library args w = argument args 0 formal.Package (λ a. known_package a.form)
+command func.Print args w = argument args 0 formal.Value (λ a. then_do (a.gives w) (printed_given w))
+command func.Fwrite args w =
+    argument args 0 formal.Table (λ a. then_do (a.gives w) (λ g.
+    argument args (cond (is_free (names_in args) formal.Table) 1 0) formal.File (λ b. written_given w g b.form)))
+command func.Rm args w =
+    argument args 0 formal.Name (λ a. then_do (bare_name a.form) (λ name. removed_name name (finite.get w.state.names name)))
+command _ args w = Err unbuilt
+
+-- the name and the doing of a command's call
+abbrev pub command_of : Kind → Func → List ArgMeaning → Option (List ℕ × (Scene → Result Effect Fault))
+command_of kind.Table f args = None
+command_of kind.Command f args = Some (word_of f, λ w. then_do (bound f (names_in args)) (λ _. command f args w))
+
+abbrev pub command_named : Option Func → List ArgMeaning → Option (List ℕ × (Scene → Result Effect Fault))
+command_named None args = None
+command_named (Some f) args = command_of (kind_of f) f args
+
+-- ---- Expressions
+
+abbrev pub unserved : Meaning
+unserved = record { form = Other; served = false; gives = λ w. Err unbuilt; command = None }
+
+-- `-` before an integer literal; before anything else it is not served
+abbrev pub negated : Form → Meaning
+negated form =
+    elim (negative form) [
+      | None ↦ unserved
+      | Some n ↦ record { form = Negative n; served = true; gives = λ w. gives_value (Cells (one_cell ty.Int (is.Int n))); command = None }
+    ]
+
+abbrev pub expr_step : Expr-F Meaning Meaning ArgMeaning Meaning Meaning → Meaning
+expr_step (Expr-F.Lit cell kind) =
+    record { form = Literal cell kind; served = true; gives = λ w. gives_value (Cells (one_cell kind cell)); command = None }
+expr_step Expr-F.Null = record { form = NullWord; served = true; gives = λ w. gives_value Null; command = None }
+expr_step Expr-F.Infinite = record { form = InfWord; served = true; gives = λ w. Err (fault E04 (codes "Inf")); command = None }
+expr_step (Expr-F.Name name) =
+    record { form = BareName name; served = true; gives = λ w. bound_value name (finite.get w.state.names name); command = None }
+expr_step (Expr-F.Paren inner) = record { form = Other; served = inner.served; gives = inner.gives; command = None }
+expr_step (Expr-F.Minus arg) = negated arg.form
+expr_step (Expr-F.Call name args) =
+    record { form = Other; served = call_served name args; gives = call_value name (func_of name) args; command = command_named (func_of name) args }
+expr_step _ = unserved
+
+abbrev pub other_step : {A : Type 0} → A → Meaning
+other_step x = unserved
+
+abbrev pub arg_step : Arg-F Meaning Meaning ArgMeaning Meaning Meaning → ArgMeaning
+arg_step a = record { name = a.name; means = a.value }
+
+-- the meaning of an expression
+abbrev pub meaning : Expr → Meaning
+meaning = fold-Expr Meaning Meaning ArgMeaning Meaning Meaning expr_step other_step arg_step other_step other_step
+
+-- the meaning of an argument
+abbrev pub arg_meaning : Arg → ArgMeaning
+arg_meaning = fold-Arg Meaning Meaning ArgMeaning Meaning Meaning expr_step other_step arg_step other_step other_step
