@@ -1,14 +1,15 @@
 ghost use Rattle.std.specs.Prelude.{◌≡◌, ◌+◌, ◌<◌, ◌≤◌, ◌==◌, length, map, All, IfOk, if◌then◌else◌};
 ghost use Rattle.dt_base.specs.declared.cell.ColType.TheVariants as ty;
 ghost use Rattle.dt_model.specs.Coercion.{brought};
-ghost use Rattle.dt_model.specs.Operations.{chosen, choice_at, picked_by, at_places, goes_with};
+ghost use Rattle.dt_model.specs.Operations.{chosen, picked_by, at_places, goes_with};
 ghost use Rattle.na_vector.specs.Words.{lgl_cell};
 ghost use Rattle.na_ops.specs.Answers.{Answers, vector_of};
+ghost use Rattle.na_ops.specs.Families.{choice_at};
 ghost use Rattle.na_ops.specs.Words.{Serves};
 ghost use Rattle.na_words.specs.Shown.{shown, IsShown, vector_from};
 
 use crate::OpFail;
-use crate::places::place_in;
+use crate::places::{place_in, push};
 use crate::two_sided::common;
 use dt_base::{ColType, Steps, Text};
 use na_vector::Column;
@@ -73,7 +74,8 @@ fn picks<A: Word, B: Word, W: Target + Drop>(
 {
     let mut out = Vec::new(alloc);
     for p in 0..test.len() {
-        out.push(pick_at::<A, B, W>(alloc, test, a, b, p)?)?;
+        let w = pick_at::<A, B, W>(alloc, test, a, b, p)?;
+        push(&mut out, w)?;
     }
     Ok(out)
 }

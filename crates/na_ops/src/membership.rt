@@ -3,11 +3,13 @@ ghost use Rattle.std.specs.HashSet.{contains};
 ghost use Rattle.std.specs.Set.{is_member};
 ghost use Rattle.dt_base.specs.declared.cell.Cell.TheVariants as cell;
 ghost use Rattle.dt_model.specs.Coercion.{brought};
-ghost use Rattle.dt_model.specs.Operations.{contained, is_among, same_cell};
+ghost use Rattle.dt_model.specs.Operations.{contained, same_cell};
 ghost use Rattle.na_vector.specs.Words.{lgl_cell, IsLglWord};
+ghost use Rattle.na_ops.specs.Families.{among};
 ghost use Rattle.na_ops.specs.Same.{same_lgl, same_int, same_text};
 ghost use Rattle.na_words.specs.Shown.{shown, IsShown, vector_from};
 
+use crate::places::push;
 use crate::two_sided::common;
 use dt_base::{ColType, Steps, Text};
 use na_vector::Column;
@@ -56,6 +58,13 @@ fn set_of<W: Keyed + Drop>(alloc: Global, words: Vec<W>) -> Result<HashSet<W>, A
     words.into_iter().collect(alloc)
 }
 
+/// Whether the set has the word.
+fn has<W: Keyed>(set: &HashSet<W>, w: &W) -> bool
+    ensures { result ≡ contains W.eq set.now w.now }
+{
+    set.contains(w)
+}
+
 /// The word of a truth value.
 fn flag(b: bool) -> u8
     ensures word { lgl_cell result ≡ cell.Lgl b }
@@ -72,7 +81,7 @@ fn members<A: Word, W: Keyed + Drop>(
 ) -> Result<Vec<u8>, AllocError>
     requires { All W.fine words.items }
     ensures cells { IfOk result (λ v. map lgl_cell v.items ≡
-        map (is_among (map W.cell words.items)) (map (brought W.kind) (map A.cell a.now))) }
+        map (among W.kind (map W.cell words.items)) (map A.cell a.now)) }
     ensures fine { IfOk result (λ v. All IsLglWord v.items) }
     ensures count { IfOk result (λ v. length v.items ≡ length a.now) }
 {
@@ -80,7 +89,8 @@ fn members<A: Word, W: Keyed + Drop>(
     let mut out = Vec::new(alloc);
     for x in a {
         let w = W::of(alloc, x)?;
-        out.push(flag(set.contains(&w)))?;
+        let found = has::<W>(&set, &w);
+        push(&mut out, flag(found))?;
     }
     Ok(out)
 }
@@ -94,7 +104,7 @@ fn members_column<A: Word, W: Keyed + Drop>(
     requires fine { All W.fine words.items }
     requires short { length a.now ≤ 16777216 }
     ensures { IfOk result (λ c. c.vector ≡ vector_from ColType.Lgl
-        (map (is_among (map W.cell words.items)) (map (brought W.kind) (map A.cell a.now)))) }
+        (map (among W.kind (map W.cell words.items)) (map A.cell a.now))) }
 {
     Ok(Column::from_lgls(members::<A, W>(alloc, a, words)?))
 }
@@ -108,7 +118,7 @@ fn contained_words<W: Keyed + Drop>(
     requires left { IsShown a }
     requires right { IsShown b }
     ensures { IfOk result (λ c. c.vector ≡ vector_from ColType.Lgl
-        (map (is_among (map (brought W.kind) (shown b.entry).cells)) (map (brought W.kind) (shown a.entry).cells))) }
+        (map (among W.kind (map (brought W.kind) (shown b.entry).cells)) (shown a.entry).cells)) }
 {
     let words = brought_words::<W>(alloc, b)?;
     match a {

@@ -35,8 +35,16 @@ fn word_at<A: Word, B: Word, W: Word, K: Kernel<A, B, W>>(a: &[A], b: &[B], p: u
     K::at(&a[place_in(a.len(), p)], &b[place_in(b.len(), p)])
 }
 
+/// One more at the end of the list.
+pub fn push<W: Drop>(list: &mut Vec<W>, x: W) -> Result<(), AllocError>
+    ensures { OnOk result (list.new.items ≡ list.old.items ++ x ∷ []) }
+{
+    list.push(x)?;
+    Ok(())
+}
+
 /// `list` with one more at its end.
-pub fn add<W: Drop>(list: &mut Vec<W>, x: W) -> Result<(), OpFail>
+fn add<W: Drop>(list: &mut Vec<W>, x: W) -> Result<(), OpFail>
     ensures ok { OnOk result (list.new.items ≡ list.old.items ++ x ∷ []) }
     ensures err { IfErr result IsNoMemory }
 {

@@ -1,6 +1,7 @@
 use Rattle.std.proofs.Common.{◌≡◌, map, All, length}
-use Rattle.dt_model.specs.Operations.{at_places, choice_at}
+use Rattle.dt_model.specs.Operations.{at_places}
 use Rattle.na_vector.specs.Words.{lgl_cell}
+use Rattle.na_ops.specs.Families.{choice_at}
 use Rattle.na_ops.proofs.choice.picks.Given as goal
 
 abbrev pub invariant-loop-p : goal.invariant-loop-p
