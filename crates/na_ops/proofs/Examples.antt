@@ -42,8 +42,8 @@ past_greatest = refl
 past_least : op_cell op.Mul ty.Int ty.Int (is.Int (pos (2 ^ 62))) (is.Int (negsuc 1)) ≡ Outside
 past_least = refl
 
--- 10 is below the text 9, since both are texts
-as_texts : op_cell op.Lt ty.Int ty.Chr (is.Int (pos 10)) (is.Text (codes "9")) ≡ Gives (is.Lgl true)
+-- TRUE is the text TRUE, which is below the text true
+as_texts : op_cell op.Lt ty.Lgl ty.Chr (is.Lgl true) (is.Text (codes "true")) ≡ Gives (is.Lgl true)
 as_texts = refl
 
 -- NA & FALSE is FALSE, NA & TRUE is NA, NA | TRUE is TRUE
@@ -100,12 +100,12 @@ text_na = refl
 
 -- fifelse of TRUE, NA: the first, NA
 choice : chosen (vector ty.Lgl (is.Lgl true ∷ is.Na ∷ [])) (vector ty.Lgl (is.Lgl true ∷ [])) (vector ty.Int (is.Int (pos 7) ∷ []))
-  ≡ Ok (vector ty.Int (is.Int (pos 1) ∷ is.Na ∷ []))
+    ≡ Ok (vector ty.Int (is.Int (pos 1) ∷ is.Na ∷ []))
 unfolding vector
 choice = refl
 
 -- NA is in what has NA
 na_in : contained (vector ty.Lgl (is.Na ∷ is.Lgl true ∷ [])) (vector ty.Int (is.Int (pos 5) ∷ is.Na ∷ []))
-  ≡ vector ty.Lgl (is.Lgl true ∷ is.Lgl false ∷ [])
+    ≡ vector ty.Lgl (is.Lgl true ∷ is.Lgl false ∷ [])
 unfolding vector
 na_in = refl

@@ -65,7 +65,7 @@ word_more cell f p items new w h e pushed =
 
 -- a loop's step where no place is outside
 pub word_placed : {W : Type 0} (cell : W → Cell) (f : ℕ → Cell) (p : ℕ) (items new : List W) (w : W) →
-  map cell items ≡ at_places p f → cell w ≡ f p → new ≡ items ++ w ∷ [] → map cell new ≡ at_places (p + 1) f
+    map cell items ≡ at_places p f → cell w ≡ f p → new ≡ items ++ w ∷ [] → map cell new ≡ at_places (p + 1) f
 word_placed cell f p items new w before here pushed =
     ap (map cell) pushed ∙ map-append cell items (w ∷ [])
     ∙ ap (λ xs. xs ++ cell w ∷ []) before ∙ ap (λ c. at_places p f ++ c ∷ []) here

@@ -17,11 +17,11 @@ use Rattle.dt_model.specs.Vector.{Vector, cell_at}
 
 abbrev pub arithmetic_answer : (Option ℤ → Option ℤ → Outcome) → Vector → Vector → Result Vector OpFault
 arithmetic_answer table a b =
-  typed (arithmetic_type a.kind b.kind) (over_cells (λ x y. table (number x) (number y)) a.cells b.cells)
+    typed (arithmetic_type a.kind b.kind) (over_cells (λ x y. table (number x) (number y)) a.cells b.cells)
 
 abbrev pub comparison_answer : (Ordering → Bool) → Vector → Vector → Result Vector OpFault
 comparison_answer test a b =
-  typed (Some ty.Lgl) (over_cells (λ x y. tested test (compared (common a.kind b.kind) x y)) a.cells b.cells)
+    typed (Some ty.Lgl) (over_cells (λ x y. tested test (compared (common a.kind b.kind) x y)) a.cells b.cells)
 
 abbrev pub logic_answer : (Cell → Cell → Outcome) → Vector → Vector → Result Vector OpFault
 logic_answer table a b = typed (logic_type a.kind b.kind) (over_cells table a.cells b.cells)

@@ -8,9 +8,9 @@ ghost use Rattle.na_ops.specs.Words.{IsWord};
 
 use crate::OpFail;
 use crate::places::{Kernel, over};
-use na_words::{Number, Words};
 use dt_base::limits::{MAX_INTEGER, NA_WORD};
 use na_vector::Column;
+use na_words::{Number, Words};
 use std::alloc::Global;
 use std::marker::PhantomData;
 
@@ -52,9 +52,13 @@ pub fn calculate<K: Arithmetic>(alloc: Global, a: Words<'_>, b: Words<'_>) -> Re
 }
 
 pub struct Add;
+
 pub struct Subtract;
+
 pub struct Multiply;
+
 pub struct Divide;
+
 pub struct Modulo;
 
 impl Arithmetic for Add {

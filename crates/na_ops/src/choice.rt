@@ -18,12 +18,7 @@ use std::alloc::{AllocError, Global};
 use std::sync::ledger::Ledger;
 
 /// The word that a test picks, brought to the type.
-fn pick<A: Word, B: Word, W: Target>(
-    alloc: Global,
-    test: u8,
-    a: &A,
-    b: &B,
-) -> Result<W, AllocError>
+fn pick<A: Word, B: Word, W: Target>(alloc: Global, test: u8, a: &A, b: &B) -> Result<W, AllocError>
     ensures word { IfOk result (λ w. W.cell w ≡
         picked_by (lgl_cell test) (brought W.kind (A.cell a.now)) (brought W.kind (B.cell b.now))) }
     ensures fine { IfOk result W.fine }

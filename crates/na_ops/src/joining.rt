@@ -26,12 +26,7 @@ fn joined<W: Target + Drop>(alloc: Global, a: Words<'_>, b: Words<'_>) -> Result
 }
 
 /// The words of two columns in a row, brought to a type.
-fn joined_as(
-    alloc: Global,
-    kind: ColType,
-    a: Words<'_>,
-    b: Words<'_>,
-) -> Result<Column, AllocError>
+fn joined_as(alloc: Global, kind: ColType, a: Words<'_>, b: Words<'_>) -> Result<Column, AllocError>
     requires { length (shown a).cells + length (shown b).cells ≤ 16777216 }
     ensures { IfOk result (λ c. c.vector ≡ vector_from kind
         (map (brought kind) (shown a.entry).cells ++ map (brought kind) (shown b.entry).cells)) }

@@ -2,7 +2,7 @@ ghost use Rattle.std.specs.Prelude.{◌≡◌, ◌+◌, ◌≤◌, length, map, 
 ghost use Rattle.std.specs.HashSet.{contains};
 ghost use Rattle.std.specs.Set.{is_member};
 ghost use Rattle.dt_base.specs.declared.cell.Cell.TheVariants as cell;
-ghost use Rattle.dt_model.specs.Coercion.{brought};
+ghost use Rattle.dt_model.specs.Coercion.{brought, common};
 ghost use Rattle.dt_model.specs.Operations.{contained, same_cell};
 ghost use Rattle.na_vector.specs.Words.{lgl_cell, IsLglWord};
 ghost use Rattle.na_ops.specs.Families.{among};
@@ -128,6 +128,32 @@ fn contained_words<W: Keyed + Drop>(
     }
 }
 
+/// The common type of two columns.
+fn common_of(a: &Column, b: &Column) -> ColType
+    ensures { result ≡ common a.now.vector.kind b.now.vector.kind }
+{
+    common(a.kind(), b.kind())
+}
+
+/// The same in a type.
+fn contained_as(
+    alloc: Global,
+    kind: ColType,
+    a: Words<'_>,
+    b: Words<'_>,
+) -> Result<Column, AllocError>
+    requires left { IsShown a }
+    requires right { IsShown b }
+    ensures { IfOk result (λ c. c.vector ≡ vector_from ColType.Lgl
+        (map (among kind (map (brought kind) (shown b.entry).cells)) (shown a.entry).cells)) }
+{
+    match kind {
+        ColType::Lgl => contained_words::<u8>(alloc, a, b),
+        ColType::Int => contained_words::<i64>(alloc, a, b),
+        ColType::Chr => contained_words::<Option<Text>>(alloc, a, b),
+    }
+}
+
 /// For each cell of the first column whether the second has the same one, both in the common type:
 /// `%in%`. NA is the same as NA. The lengths need not go together, and no type is refused.
 ///
@@ -147,9 +173,6 @@ pub fn contained<L: Ledger>(
 {
     let left = words_of(a, steps);
     let right = words_of(b, steps);
-    match common(a.kind(), b.kind()) {
-        ColType::Lgl => contained_words::<u8>(alloc, left, right),
-        ColType::Int => contained_words::<i64>(alloc, left, right),
-        ColType::Chr => contained_words::<Option<Text>>(alloc, left, right),
-    }
+    let kind = common_of(a, b);
+    contained_as(alloc, kind, left, right)
 }

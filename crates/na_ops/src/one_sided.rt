@@ -7,10 +7,10 @@ ghost use Rattle.na_ops.specs.Answers.{Answers, vector_of};
 ghost use Rattle.na_words.specs.Shown.{shown, IsShown};
 
 use crate::OpFail;
-use na_words::{Change, NA_LGL, Number, Target, Word, Words, append, words_of};
 use dt_base::limits::NA_WORD;
 use dt_base::{Steps, Text, UnOp};
 use na_vector::Column;
+use na_words::{Change, NA_LGL, Number, Target, Word, Words, append, words_of};
 use std::alloc::{AllocError, Global};
 use std::sync::ledger::Ledger;
 
@@ -65,7 +65,10 @@ impl<A: Word> Change<A, u8> for TestNa {
 }
 
 /// The column of the changed words.
-fn changed<A: Word, W: Target + Drop, C: Change<A, W>>(alloc: Global, a: &[A]) -> Result<Column, OpFail>
+fn changed<A: Word, W: Target + Drop, C: Change<A, W>>(
+    alloc: Global,
+    a: &[A],
+) -> Result<Column, OpFail>
     requires { length a.now ≤ 16777216 }
     ensures { Answers vector_of (typed (Some W.kind) (Ok (map C.table (map A.cell a.now)))) result }
 {

@@ -5,8 +5,8 @@ ghost use Rattle.na_ops.specs.Answers.{Answers, IsNoMemory, vector_of};
 ghost use Rattle.na_ops.specs.Words.{IsWord, Serves};
 
 use crate::OpFail;
-use na_words::{Target, Word};
 use na_vector::Column;
+use na_words::{Target, Word};
 use std::alloc::{AllocError, Global};
 
 /// An operation on words of two types.

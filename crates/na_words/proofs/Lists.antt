@@ -11,7 +11,7 @@ as_long c t k ws xs same = sym (length-map ws c) ∙ ap length same ∙ length-m
 
 -- two lists that give the same cells give the same cell at a place
 pub paired : {W X : Type 0} (c : W → Cell) (t : X → Cell) (k : Cell → Cell) (ws : List W) (xs : List X) (p : ℕ) (w : W) (x : X) →
-  map c ws ≡ map k (map t xs) → p < length xs → w ≡ get_or ws p w → x ≡ get_or xs p x → c w ≡ k (t x)
+    map c ws ≡ map k (map t xs) → p < length xs → w ≡ get_or ws p w → x ≡ get_or xs p x → c w ≡ k (t x)
 paired c t k ws xs p w x same lt there here =
     let long : length ws ≡ length xs = as_long c t k ws xs same in
     let lt' : p < length ws = omega arith in

@@ -53,7 +53,11 @@ pub fn append<A: Word, W: Word + Drop, C: Change<A, W>>(
 }
 
 /// Puts the words of a column, brought to the type, after those that are there.
-pub fn append_words<W: Target + Drop>(alloc: Global, out: &mut Vec<W>, words: Words<'_>) -> Result<(), AllocError>
+pub fn append_words<W: Target + Drop>(
+    alloc: Global,
+    out: &mut Vec<W>,
+    words: Words<'_>,
+) -> Result<(), AllocError>
     requires fine { All W.fine out.old.items }
     ensures cells { OnOk result
         (map W.cell out.new.items ≡ map W.cell out.old.items ++ map (brought W.kind) (shown words.entry).cells) }
@@ -70,7 +74,10 @@ pub fn append_words<W: Target + Drop>(alloc: Global, out: &mut Vec<W>, words: Wo
 
 /// The words of a column, brought to the type.
 #[tactic(auto, using(crate::proofs::Short::shown_short))]
-pub fn brought_words<W: Target + Drop>(alloc: Global, words: Words<'_>) -> Result<Vec<W>, AllocError>
+pub fn brought_words<W: Target + Drop>(
+    alloc: Global,
+    words: Words<'_>,
+) -> Result<Vec<W>, AllocError>
     requires { IsShown words }
     ensures cells { IfOk result (λ v. map W.cell v.items ≡ map (brought W.kind) (shown words.entry).cells) }
     ensures fine { IfOk result (λ v. All W.fine v.items) }
@@ -169,7 +176,10 @@ fn warns_of<W: Target>(words: Words<'_>, made: &[W]) -> Warns
 }
 
 /// The column of words that are brought to the type, and its warnings.
-fn coerced_words<W: Target + Drop>(alloc: Global, words: Words<'_>) -> Result<(Column, Warns), AllocError>
+fn coerced_words<W: Target + Drop>(
+    alloc: Global,
+    words: Words<'_>,
+) -> Result<(Column, Warns), AllocError>
     requires { IsShown words }
     ensures column { IfOk result (λ r. r.0.vector ≡ coerced W.kind (shown words.entry)) }
     ensures warns { IfOk result (λ r. r.1 ≡ coercion_warns W.kind (shown words.entry)) }

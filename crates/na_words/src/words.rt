@@ -102,7 +102,9 @@ pub trait Number: Word {
 
 impl Word for u8 {
     ghost cell = { lgl_cell };
+
     ghost kind = { ty.Lgl };
+
     ghost fine = { IsLglWord };
 
     fn kind() -> ColType {
@@ -139,7 +141,9 @@ impl Word for u8 {
 
 impl Word for i64 {
     ghost cell = { int_cell };
+
     ghost kind = { ty.Int };
+
     ghost fine = { λ n. Unit {0} };
 
     fn kind() -> ColType {
@@ -171,7 +175,9 @@ impl Word for i64 {
 
 impl Word for Option<Text> {
     ghost cell = { text_cell };
+
     ghost kind = { ty.Chr };
+
     ghost fine = { λ t. Unit {0} };
 
     fn kind() -> ColType {

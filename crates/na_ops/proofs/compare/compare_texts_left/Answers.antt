@@ -11,6 +11,6 @@ use Rattle.na_ops.proofs.compare.compare_texts_left.Goals as goal
 pub returns-in-Ok : goal.returns-in-Ok
 returns-in-Ok g c =
     subst (λ r. Answers vector_of (typed (Some ty.Lgl) r) c.over.result)
-      (ap (λ xs. over_cells (as_texts g.K.Comparison.test) (map text_cell c.args.a.now) xs) (ap (map text_cell) c.as_slice.ensures.value ∙ c.in-Ok.ensures.cells)
-        ∙ right g.K.Comparison.test (map text_cell c.args.a.now) (shown c.args.b).cells)
-      c.over.ensures
+    (ap (λ xs. over_cells (as_texts g.K.Comparison.test) (map text_cell c.args.a.now) xs) (ap (map text_cell) c.as_slice.ensures.value ∙ c.in-Ok.ensures.cells)
+    ∙ right g.K.Comparison.test (map text_cell c.args.a.now) (shown c.args.b).cells)
+    c.over.ensures

@@ -12,7 +12,7 @@ bounds-made-p g c = omega (arith, as_long g.W.Word.cell text_cell (brought g.W.W
 
 pub is_lost-requires : goal.is_lost-requires
 is_lost-requires g c = paired g.W.Word.cell text_cell (brought g.W.Word.kind) c.args.made.now c.args.a.now c.args.p c.index-made-p.result c.index-a-p.result
-  c.requires.made c.requires.place c.index-made-p.is c.index-a-p.is
+    c.requires.made c.requires.place c.index-made-p.is c.index-a-p.is
 
 pub returns : goal.returns
 returns g c = c.is_lost.ensures ∙ ap (becomes_na g.W.Word.kind) (sym (cell_at-map text_cell c.args.a.now c.args.p c.index-a-p.result c.requires.place c.index-a-p.is))
