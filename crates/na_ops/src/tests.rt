@@ -242,7 +242,8 @@ fn column_of(rt: &impl Abort, alloc: Global, spelled: &str) -> Result<Column, Fa
     let mut column = Column::new(alloc, kind);
     for word in words {
         assert!(rt; column.len() < 1_000);
-        column.push(cell_of(alloc, kind, word)?)?;
+        let cell = cell_of(alloc, column.kind(), word)?;
+        column.push(cell)?;
     }
     Ok(column)
 }
