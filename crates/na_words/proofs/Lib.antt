@@ -1,3 +1,3 @@
 pub mod Lists
-pub mod Warnings
 pub mod Short
+pub mod Warnings
