@@ -8,3 +8,4 @@ pub mod RowFacts
 pub mod Sizes
 pub mod TableFacts
 pub mod TextFacts
+pub mod WriteFacts

@@ -20,6 +20,9 @@ mod read;
 mod records;
 mod table;
 mod typed;
+mod write;
+mod writer;
 
 pub use fail::CsvFail;
 pub use read::read_table;
+pub use write::write_table;

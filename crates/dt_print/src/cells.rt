@@ -1,9 +1,9 @@
 //! The text of one cell.
 ghost use Rattle.std.specs.Prelude.{◌≡◌, ◌++◌, OnOk, decimal};
-ghost use Rattle.std.specs.Fmt.{signed_decimal};
 ghost use Rattle.dt_base.specs.Cell.{seen};
-ghost use Rattle.run_model.specs.Printed.{begins_character, characters, table_byte, name_text, na_text, logical_text, cell_text, vector_byte, element};
+ghost use Rattle.run_model.specs.Printed.{begins_character, characters, table_byte, name_text, na_text, cell_text, vector_byte};
 
+use cell_text::{push_integer, truth_text};
 use dt_base::{CellRef, ColType};
 use itoa::Buffer;
 use std::alloc::AllocError;
@@ -24,13 +24,6 @@ pub fn width_of(text: &[u8]) -> usize
 /// Adds a number.
 pub fn push_number(out: &mut Vec<u8>, n: u64) -> Result<(), AllocError>
     ensures { OnOk result (out.new.items ≡ out.old.items ++ decimal n) }
-{
-    let mut buffer = Buffer::new();
-    out.extend_from_slice(buffer.format(n).as_bytes())
-}
-
-pub fn push_integer(out: &mut Vec<u8>, n: i64) -> Result<(), AllocError>
-    ensures { OnOk result (out.new.items ≡ out.old.items ++ signed_decimal n) }
 {
     let mut buffer = Buffer::new();
     out.extend_from_slice(buffer.format(n).as_bytes())
@@ -68,12 +61,6 @@ pub fn push_name(out: &mut Vec<u8>, text: &str) -> Result<(), AllocError>
     Ok(())
 }
 
-pub fn logical_word(b: bool) -> &'static str
-    ensures { result.now ≡ logical_text b }
-{
-    if b { "TRUE" } else { "FALSE" }
-}
-
 fn na_word(kind: ColType) -> &'static str
     ensures { result.now ≡ na_text kind }
 {
@@ -89,7 +76,7 @@ pub fn push_cell(out: &mut Vec<u8>, kind: ColType, cell: CellRef<'_>) -> Result<
 {
     match cell {
         CellRef::Na => out.extend_from_slice(na_word(kind).as_bytes()),
-        CellRef::Lgl(b) => out.extend_from_slice(logical_word(b).as_bytes()),
+        CellRef::Lgl(b) => out.extend_from_slice(truth_text(b).as_bytes()),
         CellRef::Int(n) => push_integer(out, n),
         CellRef::Text(text) => push_name(out, text),
     }

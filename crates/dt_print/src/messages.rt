@@ -166,7 +166,8 @@ fn push_line_start(
 /// A name stands as it is. `E06` tells a group and an expression where `n` is not 0, both counted
 /// from 1; `E18` with `n` 0 speaks of the script, and else of record `n`.
 ///
-/// dtq's own rule, docs/LANGUAGE.md, section Faults.
+/// dtq's own rule, docs/LANGUAGE.md, section Faults and
+/// warnings.
 pub fn fault_line(alloc: Global, line: u32, f: &Fault) -> Result<Vec<u8>, AllocError>
     ensures { IfOk result (λ v. v.items ≡ printed_fault line f.now) }
 {
@@ -244,7 +245,8 @@ fn push_given(out: &mut Vec<u8>, line: u32, warns: Warns, among: &[Warn]) -> Res
 /// The lines of a statement's warnings: each of the set once, in the order of their numbers. The
 /// empty set has no line. Lines of the script count from 1.
 ///
-/// dtq's own rule, docs/LANGUAGE.md, section Warnings.
+/// dtq's own rule, docs/LANGUAGE.md, section Faults and
+/// warnings.
 pub fn warn_lines(alloc: Global, line: u32, warns: Warns) -> Result<Vec<u8>, AllocError>
     ensures { IfOk result (λ v. v.items ≡ printed_warns line warns) }
 {

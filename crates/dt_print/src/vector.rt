@@ -5,7 +5,8 @@ ghost use Rattle.na_vector.specs.Words.{int_cell, lgl_cell, text_cell, IsLglWord
 ghost use Rattle.run_model.specs.Printed.{vector_byte, element, empty_vector_text, printed_vector, null_text as printed_null};
 ghost use Rattle.dt_print.specs.Elements.{int_part, lgl_part, text_part};
 
-use crate::cells::{logical_word, push_integer, push_vector_byte};
+use crate::cells::push_vector_byte;
+use cell_text::{push_integer, truth_text};
 use dt_base::limits::NA_WORD;
 use dt_base::{ColType, Steps, Text};
 use na_vector::Column;
@@ -34,7 +35,7 @@ fn push_lgl(out: &mut Vec<u8>, word: u8) -> Result<(), AllocError>
     if word == NA_LOGICAL {
         out.extend_from_slice(b"NA")
     } else {
-        out.extend_from_slice(logical_word(word == 1).as_bytes())
+        out.extend_from_slice(truth_text(word == 1).as_bytes())
     }
 }
 

@@ -62,3 +62,11 @@ pub word_more : {W : Type 0} (cell : W → Cell) (f : ℕ → Outcome) (p : ℕ)
     Settled f p (map cell items) → f p ≡ Gives (cell w) → new ≡ items ++ w ∷ [] → Settled f (p + 1) (map cell new)
 word_more cell f p items new w h e pushed =
     subst (λ xs. Settled f (p + 1) xs) (sym (ap (map cell) pushed ∙ map-append cell items (w ∷ []))) (settled_more f p (map cell items) (cell w) h e)
+
+-- a loop's step where no place is outside
+pub word_placed : {W : Type 0} (cell : W → Cell) (f : ℕ → Cell) (p : ℕ) (items new : List W) (w : W) →
+    map cell items ≡ at_places p f → cell w ≡ f p → new ≡ items ++ w ∷ [] → map cell new ≡ at_places (p + 1) f
+word_placed cell f p items new w before here pushed =
+    ap (map cell) pushed ∙ map-append cell items (w ∷ [])
+    ∙ ap (λ xs. xs ++ cell w ∷ []) before ∙ ap (λ c. at_places p f ++ c ∷ []) here
+    ∙ sym (map-range_with_len_more f 0 p p (omega arith))

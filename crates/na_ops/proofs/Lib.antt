@@ -1,7 +1,6 @@
 pub mod Answered
+pub mod Examples
 pub mod Fill
-pub mod Lists
+pub mod Members
 pub mod Mixed
 pub mod Numbers
-pub mod Short
-pub mod Warnings

@@ -23,7 +23,7 @@ over_places_is f a b (Some k) = refl
 
 -- lists of the same lengths with the same outcomes have the same answer
 same_over : (f : Cell → Cell → Outcome) (a b a' b' : List Cell) → length a ≡ length a' → length b ≡ length b' →
-  ((p : ℕ) → at_place f a b p ≡ at_place f a' b' p) → over_cells f a b ≡ over_cells f a' b'
+    ((p : ℕ) → at_place f a b p ≡ at_place f a' b' p) → over_cells f a b ≡ over_cells f a' b'
 same_over f a b a' b' la lb h =
     over_places_is f a b (joint (length a) (length b))
     ∙ (λ i. from_parts (la i) (lb i) (λ p. h p i) (joint (la i) (lb i)))
@@ -47,10 +47,10 @@ as_texts test x y = tested test (order_of (slice_cmp nat_cmp) (text x) (text y))
 
 pub left : (test : Ordering → Bool) (a b : List Cell) → over_cells (as_texts test) (map to_text a) b ≡ over_cells (as_texts test) a b
 left test a b = same_over (as_texts test) (map to_text a) b a b (length-map a to_text) refl
-  (λ p. ap (λ x. as_texts test x (cell_for b p)) (cell_for-texts a p)
+    (λ p. ap (λ x. as_texts test x (cell_for b p)) (cell_for-texts a p)
     ∙ ap (λ t. tested test (order_of (slice_cmp nat_cmp) t (text (cell_for b p)))) (text-to_text (cell_for a p)))
 
 pub right : (test : Ordering → Bool) (a b : List Cell) → over_cells (as_texts test) a (map to_text b) ≡ over_cells (as_texts test) a b
 right test a b = same_over (as_texts test) a (map to_text b) a b refl (length-map b to_text)
-  (λ p. ap (λ x. as_texts test (cell_for a p) x) (cell_for-texts b p)
+    (λ p. ap (λ x. as_texts test (cell_for a p) x) (cell_for-texts b p)
     ∙ ap (λ t. tested test (order_of (slice_cmp nat_cmp) (text (cell_for a p)) t)) (text-to_text (cell_for b p)))

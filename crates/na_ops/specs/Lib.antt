@@ -1,4 +1,4 @@
 pub mod Answers
 pub mod Families
-pub mod Shown
+pub mod Same
 pub mod Words

@@ -3,14 +3,14 @@ ghost use Rattle.dt_model.specs.Operations.{Outcome, number, whole, added, subtr
 ghost use Rattle.na_vector.specs.Words.{int_cell};
 ghost use Rattle.na_ops.specs.Answers.{Answers, vector_of};
 ghost use Rattle.na_ops.specs.Families.{arithmetic_answer};
-ghost use Rattle.na_ops.specs.Shown.{shown, IsShown};
+ghost use Rattle.na_words.specs.Shown.{shown, IsShown};
 ghost use Rattle.na_ops.specs.Words.{IsWord};
 
 use crate::OpFail;
 use crate::places::{Kernel, over};
-use crate::words::{Number, Words};
 use dt_base::limits::{MAX_INTEGER, NA_WORD};
 use na_vector::Column;
+use na_words::{Number, Words};
 use std::alloc::Global;
 use std::marker::PhantomData;
 
@@ -52,9 +52,13 @@ pub fn calculate<K: Arithmetic>(alloc: Global, a: Words<'_>, b: Words<'_>) -> Re
 }
 
 pub struct Add;
+
 pub struct Subtract;
+
 pub struct Multiply;
+
 pub struct Divide;
+
 pub struct Modulo;
 
 impl Arithmetic for Add {

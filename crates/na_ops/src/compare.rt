@@ -7,15 +7,14 @@ ghost use Rattle.dt_model.specs.Operations.{Gives, number, text, order_of, teste
 ghost use Rattle.na_vector.specs.Words.{int_cell, lgl_cell, text_cell, IsLglWord};
 ghost use Rattle.na_ops.specs.Answers.{Answers, vector_of};
 ghost use Rattle.na_ops.specs.Families.{comparison_answer};
-ghost use Rattle.na_ops.specs.Shown.{shown, IsShown};
+ghost use Rattle.na_words.specs.Shown.{shown, IsShown};
 
 use crate::OpFail;
-use crate::convert::brought_words;
 use crate::places::{Kernel, over};
-use crate::words::{NA_LGL, Number, Words};
 use dt_base::Text;
 use dt_base::limits::NA_WORD;
 use na_vector::Column;
+use na_words::{NA_LGL, Number, Words, brought_words};
 use std::alloc::Global;
 use std::marker::PhantomData;
 
@@ -82,7 +81,11 @@ fn compare_texts_left<K: Comparison>(
         (over_cells (λ x y. tested K.test (order_of (slice_cmp nat_cmp) (text x) (text y))) (map text_cell a.now) (shown b.entry).cells)) result }
 {
     match brought_words::<Option<Text>>(alloc, b) {
-        Ok(texts) => over::<Option<Text>, Option<Text>, u8, TextsTest<K>>(alloc, a, texts.as_slice()),
+        Ok(texts) => over::<Option<Text>, Option<Text>, u8, TextsTest<K>>(
+            alloc,
+            a,
+            texts.as_slice(),
+        ),
         Err(e) => Err(OpFail::NoMemory(e)),
     }
 }
@@ -99,7 +102,11 @@ fn compare_texts_right<K: Comparison>(
         (over_cells (λ x y. tested K.test (order_of (slice_cmp nat_cmp) (text x) (text y))) (shown a.entry).cells (map text_cell b.now))) result }
 {
     match brought_words::<Option<Text>>(alloc, a) {
-        Ok(texts) => over::<Option<Text>, Option<Text>, u8, TextsTest<K>>(alloc, texts.as_slice(), b),
+        Ok(texts) => over::<Option<Text>, Option<Text>, u8, TextsTest<K>>(
+            alloc,
+            texts.as_slice(),
+            b,
+        ),
         Err(e) => Err(OpFail::NoMemory(e)),
     }
 }
@@ -122,10 +129,15 @@ pub fn compare<K: Comparison>(alloc: Global, a: Words<'_>, b: Words<'_>) -> Resu
 }
 
 pub struct Equal;
+
 pub struct NotEqual;
+
 pub struct Less;
+
 pub struct LessOrEqual;
+
 pub struct Greater;
+
 pub struct GreaterOrEqual;
 
 impl Comparison for Equal {

@@ -2,12 +2,12 @@ ghost use Rattle.std.specs.Prelude.{◌≡◌};
 ghost use Rattle.dt_model.specs.Operations.{Gives, both_true, one_true};
 ghost use Rattle.na_ops.specs.Answers.{Answers, vector_of};
 ghost use Rattle.na_ops.specs.Families.{logic_answer};
-ghost use Rattle.na_ops.specs.Shown.{shown, IsShown};
+ghost use Rattle.na_words.specs.Shown.{shown, IsShown};
 
 use crate::OpFail;
 use crate::places::{Kernel, over};
-use crate::words::{NA_LGL, Words};
 use na_vector::Column;
+use na_words::{NA_LGL, Words};
 use std::alloc::Global;
 
 /// `&`
@@ -41,7 +41,11 @@ impl Kernel<u8, u8, u8> for Either {
 }
 
 /// The operation on two columns.
-pub fn connect<K: Kernel<u8, u8, u8>>(alloc: Global, a: Words<'_>, b: Words<'_>) -> Result<Column, OpFail>
+pub fn connect<K: Kernel<u8, u8, u8>>(
+    alloc: Global,
+    a: Words<'_>,
+    b: Words<'_>,
+) -> Result<Column, OpFail>
     requires left { IsShown a }
     requires right { IsShown b }
     ensures { Answers vector_of (logic_answer K.table (shown a.entry) (shown b.entry)) result }

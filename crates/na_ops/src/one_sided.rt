@@ -1,17 +1,16 @@
-ghost use Rattle.std.specs.Prelude.{◌≡◌, ◌+◌, length};
+ghost use Rattle.std.specs.Prelude.{◌≡◌, ◌+◌, ◌≤◌, length, map, Some, Ok};
 ghost use Rattle.dt_base.specs.declared.cell.Cell.TheVariants as cell;
 ghost use Rattle.dt_model.specs.Coercion.{is_na};
-ghost use Rattle.dt_model.specs.Operations.{unary, negated, inverted, number};
+ghost use Rattle.dt_model.specs.Operations.{unary, negated, inverted, number, typed};
 ghost use Rattle.na_vector.specs.Words.{int_cell, lgl_cell, IsLglWord};
 ghost use Rattle.na_ops.specs.Answers.{Answers, vector_of};
-ghost use Rattle.na_ops.specs.Shown.{shown, IsShown};
+ghost use Rattle.na_words.specs.Shown.{shown, IsShown};
 
 use crate::OpFail;
-use crate::convert::{Change, changed};
-use crate::words::{NA_LGL, Number, Word, Words, words_of};
 use dt_base::limits::NA_WORD;
 use dt_base::{Steps, Text, UnOp};
 use na_vector::Column;
+use na_words::{Change, NA_LGL, Number, Target, Word, Words, append, words_of};
 use std::alloc::{AllocError, Global};
 use std::sync::ledger::Ledger;
 
@@ -62,6 +61,24 @@ impl<A: Word> Change<A, u8> for TestNa {
 
     fn of(_alloc: Global, x: &A) -> Result<u8, AllocError> {
         Ok(x.is_na() as u8)
+    }
+}
+
+/// The column of the changed words.
+fn changed<A: Word, W: Target + Drop, C: Change<A, W>>(
+    alloc: Global,
+    a: &[A],
+) -> Result<Column, OpFail>
+    requires { length a.now ≤ 16777216 }
+    ensures { Answers vector_of (typed (Some W.kind) (Ok (map C.table (map A.cell a.now)))) result }
+{
+    let mut out = Vec::new(alloc);
+    match append::<A, W, C>(alloc, &mut out, a) {
+        Ok(()) => match W::column(out) {
+            Ok(column) => Ok(column),
+            Err(e) => Err(OpFail::NoMemory(e)),
+        },
+        Err(e) => Err(OpFail::NoMemory(e)),
     }
 }
 

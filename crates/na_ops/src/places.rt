@@ -5,8 +5,8 @@ ghost use Rattle.na_ops.specs.Answers.{Answers, IsNoMemory, vector_of};
 ghost use Rattle.na_ops.specs.Words.{IsWord, Serves};
 
 use crate::OpFail;
-use crate::words::{Target, Word};
 use na_vector::Column;
+use na_words::{Target, Word};
 use std::alloc::{AllocError, Global};
 
 /// An operation on words of two types.
@@ -19,7 +19,7 @@ pub trait Kernel<A: Word, B: Word, W: Word> {
         ensures fine { IfSome result W.fine };
 }
 
-fn place_in(len: usize, p: usize) -> usize
+pub fn place_in(len: usize, p: usize) -> usize
     ensures { result ≡ (if len == 1 then 0 else p) }
 {
     if len == 1 { 0 } else { p }
@@ -35,8 +35,16 @@ fn word_at<A: Word, B: Word, W: Word, K: Kernel<A, B, W>>(a: &[A], b: &[B], p: u
     K::at(&a[place_in(a.len(), p)], &b[place_in(b.len(), p)])
 }
 
+/// One more at the end of the list.
+pub fn push<W: Drop>(list: &mut Vec<W>, x: W) -> Result<(), AllocError>
+    ensures { OnOk result (list.new.items ≡ list.old.items ++ x ∷ []) }
+{
+    list.push(x)?;
+    Ok(())
+}
+
 /// `list` with one more at its end.
-pub fn add<W: Drop>(list: &mut Vec<W>, x: W) -> Result<(), OpFail>
+fn add<W: Drop>(list: &mut Vec<W>, x: W) -> Result<(), OpFail>
     ensures ok { OnOk result (list.new.items ≡ list.old.items ++ x ∷ []) }
     ensures err { IfErr result IsNoMemory }
 {

@@ -2,15 +2,15 @@ ghost use Rattle.std.specs.Prelude.{◌≡◌, ◌+◌, length};
 ghost use Rattle.dt_model.specs.Coercion.{common};
 ghost use Rattle.dt_model.specs.Operations.{binary, op_type};
 ghost use Rattle.na_ops.specs.Answers.{Answers, vector_of};
-ghost use Rattle.na_ops.specs.Shown.{shown, IsShown};
+ghost use Rattle.na_words.specs.Shown.{shown, IsShown};
 
 use crate::OpFail;
 use crate::arithmetic::{Add, Divide, Modulo, Multiply, Subtract, calculate};
 use crate::compare::{Equal, Greater, GreaterOrEqual, Less, LessOrEqual, NotEqual, compare};
 use crate::logic::{Both, Either, connect};
-use crate::words::{Words, words_of};
 use dt_base::{ColType, Op, Steps};
 use na_vector::Column;
+use na_words::{Words, words_of};
 use std::alloc::Global;
 use std::sync::ledger::Ledger;
 
@@ -21,25 +21,19 @@ type Case = Option<ColType>;
 const TYPES: usize = 3;
 
 const NONE: Case = None;
+
 const LGL: Case = Some(ColType::Lgl);
+
 const INT: Case = Some(ColType::Int);
 
 /// The types of arithmetic, by the type of the left side and that of the right: Lgl, Int, Chr.
-const ARITHMETIC: [[Case; TYPES]; TYPES] = [
-    [INT, INT, NONE],
-    [INT, INT, NONE],
-    [NONE, NONE, NONE],
-];
+const ARITHMETIC: [[Case; TYPES]; TYPES] = [[INT, INT, NONE], [INT, INT, NONE], [NONE, NONE, NONE]];
 
 /// The types of comparisons.
 const COMPARISON: [[Case; TYPES]; TYPES] = [[LGL, LGL, LGL], [LGL, LGL, LGL], [LGL, LGL, LGL]];
 
 /// The types of `&` and `|`.
-const LOGIC: [[Case; TYPES]; TYPES] = [
-    [LGL, NONE, NONE],
-    [NONE, NONE, NONE],
-    [NONE, NONE, NONE],
-];
+const LOGIC: [[Case; TYPES]; TYPES] = [[LGL, NONE, NONE], [NONE, NONE, NONE], [NONE, NONE, NONE]];
 
 /// The common types.
 const COMMON: [[ColType; TYPES]; TYPES] = [

@@ -1,0 +1,38 @@
+ghost use Rattle.std.specs.Prelude.{◌≡◌, ◌++◌, [], IfOk, OnOk};
+ghost use Rattle.csv.specs.Records.{fields_of};
+ghost use Rattle.csv.specs.Writing.{default_writer, row_text};
+ghost use Rattle.csv_edge.specs.Written.{written, IsIdle};
+
+use csv::{ByteRecord, Writer, WriterBuilder};
+use std::alloc::{AllocError, Global};
+
+/// A writer into memory with csv's defaults.
+pub(crate) fn writer(alloc: Global) -> Writer<Vec<u8>>
+    ensures idle { IsIdle result }
+    ensures empty { written result ≡ [] }
+{
+    WriterBuilder::new().from_writer(Vec::new(alloc))
+}
+
+/// Writes one record.
+pub(crate) fn write_record(wtr: &mut Writer<Vec<u8>>, row: &ByteRecord) -> Result<(), AllocError>
+    requires { IsIdle wtr.old }
+    ensures idle { OnOk result (IsIdle wtr.new) }
+    ensures text { OnOk result (written wtr.new ≡ written wtr.old ++ row_text default_writer (fields_of row.now)) }
+{
+    match wtr.write_byte_record(row) {
+        Ok(()) => Ok(()),
+        Err(_) => Err(AllocError),
+    }
+}
+
+/// All bytes that were written.
+pub(crate) fn into_text(wtr: Writer<Vec<u8>>) -> Result<Vec<u8>, AllocError>
+    requires { IsIdle wtr }
+    ensures { IfOk result (λ text. text.items ≡ written wtr) }
+{
+    match wtr.into_inner() {
+        Ok(text) => Ok(text),
+        Err(_) => Err(AllocError),
+    }
+}
