@@ -21,33 +21,18 @@ use std::sync::ledger::Ledger;
 
 /// A word that is looked up: equal words are the same cell.
 pub trait Keyed: Target + Eq + Hash {
-    /// Nothing.
-    fn is_keyed() -> bool;
-
     ghost same: { (x y : Self) → Self.fine x → Self.fine y → Self.eq x y ≡ same_cell (Self.cell x) (Self.cell y) };
 }
 
 impl Keyed for u8 {
-    fn is_keyed() -> bool {
-        true
-    }
-
     ghost same = { same_lgl };
 }
 
 impl Keyed for i64 {
-    fn is_keyed() -> bool {
-        true
-    }
-
     ghost same = { λ x y _ _. same_int x y };
 }
 
 impl Keyed for Option<Text> {
-    fn is_keyed() -> bool {
-        true
-    }
-
     ghost same = { λ x y _ _. same_text x y };
 }
 
