@@ -1,5 +1,5 @@
 /* The loops that the operators are measured against: plain C over 1,000,000 words, with the same NA.
-   Build and run: cc -O2 bench/operations.c -o /tmp/operations && /tmp/operations
+   Build and run: cc -O2 bench/operations.c -o operations && ./operations
    It prints the least of nine runs of each, in microseconds. */
 #include <stdint.h>
 #include <stdio.h>
