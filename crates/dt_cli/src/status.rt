@@ -1,3 +1,5 @@
+ghost use Rattle.std.specs.Prelude.{◌≡◌};
+
 /// How a run ended.
 #[derive(Clone, Copy, Debug, PartialEq, Eq)]
 pub enum Status {
@@ -16,8 +18,14 @@ pub enum Status {
 }
 
 impl Status {
+    ghost use Rattle.dt_cli.specs.Exit.{exit_number};
+
     /// The number that the program ends with.
-    pub fn number(self) -> u8 {
+    ///
+    /// dtq's own rule, docs/LANGUAGE.md, section What runs today.
+    pub fn number(self) -> u8
+        ensures { result ≡ exit_number self }
+    {
         match self {
             Status::Done => 0,
             Status::Stopped => 1,
