@@ -4,4 +4,4 @@ pub mod Sums
 pub mod FaultPlaces
 pub mod Answered
 pub mod EndViews
-pub mod Reads
+pub mod TokenLoop

@@ -39,7 +39,10 @@ fn empty_item(alloc: Global, frame: Frame) -> Option<(Head, Filled)>
 {
     match frame {
         Frame::InItem { head, filled } => Some((head, with_item(alloc, filled, None))),
-        _ => None,
+        other => {
+            drop(other);
+            None
+        }
     }
 }
 

@@ -16,6 +16,7 @@ mod brackets;
 mod bytes;
 mod endings;
 mod frames;
+mod having;
 mod levels;
 mod naming;
 mod operators;
@@ -23,6 +24,7 @@ mod place;
 mod reading;
 mod step;
 mod symbol;
+mod wanting;
 
 pub use bytes::{ParseFail, parse};
 pub use dt_tree::{Arg, BinOp, Bracket, Expr, Script, Second, Stmt, Tail};

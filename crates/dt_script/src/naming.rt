@@ -54,7 +54,10 @@ fn in_naming(frame: Frame, name: Text) -> Option<Frame>
             line,
             target: Some(name),
         }),
-        _ => None,
+        other => {
+            drop(other);
+            None
+        }
     }
 }
 

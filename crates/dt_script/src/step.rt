@@ -1,112 +1,19 @@
-#![tactic(auto, using(crate::proofs::FrameViews::frames, dt_grammar::proofs::Trees::trees))]
-
-ghost use Rattle.std.specs.Prelude.{◌≡◌, IfOk, option_map, ◌∷◌, [], ◌++◌};
+ghost use Rattle.std.specs.Prelude.{◌≡◌, ◌∷◌, IfOk, Some, None, option_map};
 ghost use Rattle.run_model.specs.TreeView.{tree_of, args_of, stmts_of};
 ghost use Rattle.run_model.specs.GrammarTrees as grammar;
 ghost use Rattle.dt_grammar.specs.Machine as model;
-ghost use Rattle.dt_script.specs.Frames.{head_tree, filled_of, frame_of, frames_of, state_of, symbol_of, call_of};
+ghost use Rattle.dt_script.specs.Frames.{head_tree, filled_of, frames_of, state_of, symbol_of, call_of};
 
-use crate::brackets::{head_of, with_arg};
-use crate::endings::{
-    break_line, break_none, comma, comma_none, last_stmt, shut, shut_none, shut_square,
-    shut_square_none,
-};
-use crate::frames::{Filled, Formula, Frame, Head, Prefix, State, Symbol};
-use crate::levels::level;
-use crate::naming::{arrow, assign, naming, opens, tilde};
-use crate::operators::{close, front, infix_op};
+use crate::brackets::with_arg;
+use crate::endings::last_stmt;
+use crate::frames::{Filled, Formula, Frame, Head, State, Symbol};
+use crate::having::have;
+use crate::operators::close;
+use crate::wanting::want;
 use dt_base::{Op, Text};
 use dt_tree::{Arg, BinOp, Expr, Stmt};
 use sqlite_items::Items;
 use std::alloc::{AllocError, Global};
-
-/// A token where an expression is to come.
-fn want(alloc: Global, mut frames: Vec<Frame>, symbol: Symbol) -> Result<Option<State>, AllocError>
-    ensures { IfOk result (λ next. option_map state_of next ≡ model.step (model.Want (frames_of frames.items)) (symbol_of symbol)) }
-{
-    match symbol {
-        Symbol::Literal { cell, kind } => Ok(Some(State::Have {
-            frames,
-            operand: Expr::Lit { cell, kind },
-        })),
-        Symbol::Null => Ok(Some(State::Have {
-            frames,
-            operand: Expr::Null,
-        })),
-        Symbol::Infinite => Ok(Some(State::Have {
-            frames,
-            operand: Expr::Infinite,
-        })),
-        Symbol::Name(name) => Ok(Some(State::Have {
-            frames,
-            operand: Expr::Name { name },
-        })),
-        Symbol::Operator(BinOp::Arith(Op::Sub)) => front(Prefix::Negate, frames),
-        Symbol::Bang => front(Prefix::Not, frames),
-        Symbol::Open => {
-            frames.push(Frame::InParen)?;
-            Ok(Some(State::Want { frames }))
-        }
-        Symbol::Shut => Ok(shut_none(frames)),
-        Symbol::ShutSquare => shut_square_none(alloc, frames),
-        Symbol::Comma => comma_none(alloc, frames),
-        Symbol::Break(next) => break_none(next, frames),
-        _ => Ok(None),
-    }
-}
-
-/// A token behind an expression.
-fn have(
-    alloc: Global,
-    mut frames: Vec<Frame>,
-    operand: Expr,
-    symbol: Symbol,
-) -> Result<Option<State>, AllocError>
-    ensures { IfOk result (λ next. option_map state_of next
-        ≡ model.step (model.Have (frames_of frames.items) (tree_of operand)) (symbol_of symbol)) }
-{
-    match symbol {
-        Symbol::Operator(op) => {
-            let (frames, operand) = close(alloc, frames, operand, level(op) + 1)?;
-            infix_op(alloc, op, frames, operand)
-        }
-        Symbol::Open => opens(alloc, frames, operand),
-        Symbol::OpenSquare => {
-            frames.push(Frame::InItem {
-                head: head_of(alloc, operand),
-                filled: Filled::Nothing,
-            })?;
-            Ok(Some(State::Want { frames }))
-        }
-        Symbol::Is => naming(frames, operand),
-        Symbol::Arrow => arrow(frames, operand),
-        Symbol::Shut => {
-            let (frames, operand) = close(alloc, frames, operand, 0)?;
-            shut(alloc, frames, operand)
-        }
-        Symbol::ShutSquare => {
-            let (frames, operand) = close(alloc, frames, operand, 0)?;
-            shut_square(alloc, frames, operand)
-        }
-        Symbol::Comma => {
-            let (frames, operand) = close(alloc, frames, operand, 0)?;
-            comma(alloc, frames, operand)
-        }
-        Symbol::Break(next) => {
-            let (frames, operand) = close(alloc, frames, operand, 0)?;
-            break_line(next, frames, operand)
-        }
-        Symbol::Assign => {
-            let (frames, operand) = close(alloc, frames, operand, 0)?;
-            assign(frames, operand)
-        }
-        Symbol::Tilde => {
-            let (frames, operand) = close(alloc, frames, operand, 0)?;
-            tilde(alloc, frames, operand)
-        }
-        _ => Ok(None),
-    }
-}
 
 /// A token where the name of an item is to come.
 fn need_name(head: Head, filled: Filled, frames: Vec<Frame>, symbol: Symbol) -> Option<State>
@@ -119,8 +26,26 @@ fn need_name(head: Head, filled: Filled, frames: Vec<Frame>, symbol: Symbol) -> 
             name,
             frames,
         }),
-        _ => None,
+        other => {
+            drop((other, head, filled));
+            None
+        }
     }
+}
+
+/// An item begins behind its name and `=`.
+#[tactic(auto, using(crate::proofs::FrameViews::frames))]
+fn begin_named(
+    head: Head,
+    filled: Filled,
+    name: Text,
+    mut frames: Vec<Frame>,
+) -> Result<Option<State>, AllocError>
+    ensures { IfOk result (λ next. option_map state_of next
+        ≡ Some (model.Want (model.InNamed (head_tree head) (filled_of filled) name ∷ frames_of frames.items))) }
+{
+    frames.push(Frame::InNamed { head, filled, name })?;
+    Ok(Some(State::Want { frames }))
 }
 
 /// A token behind the name of an item.
@@ -128,18 +53,18 @@ fn need_is(
     head: Head,
     filled: Filled,
     name: Text,
-    mut frames: Vec<Frame>,
+    frames: Vec<Frame>,
     symbol: Symbol,
 ) -> Result<Option<State>, AllocError>
     ensures { IfOk result (λ next. option_map state_of next
         ≡ model.step (model.NeedIs (head_tree head) (filled_of filled) name (frames_of frames.items)) (symbol_of symbol)) }
 {
     match symbol {
-        Symbol::Is => {
-            frames.push(Frame::InNamed { head, filled, name })?;
-            Ok(Some(State::Want { frames }))
+        Symbol::Is => begin_named(head, filled, name, frames),
+        other => {
+            drop((other, head, filled));
+            Ok(None)
         }
-        _ => Ok(None),
     }
 }
 
@@ -177,38 +102,19 @@ fn need_word(
     }
 }
 
-/// A token behind the names on the right of `~`.
-fn have_words(
-    formula: Formula,
-    mut frames: Vec<Frame>,
-    symbol: Symbol,
-) -> Result<Option<State>, AllocError>
-    ensures { IfOk result (λ next. option_map state_of next
-        ≡ model.step (model.HaveWords formula.call (args_of formula.args) formula.target formula.left formula.right (frames_of frames.items)) (symbol_of symbol)) }
+/// An operator behind the names on the right of `~`: behind `+` one more name is to come.
+fn more_names(op: BinOp, formula: Formula, frames: Vec<Frame>) -> Option<State>
+    ensures { option_map state_of result
+        ≡ model.step (model.HaveWords formula.call (args_of formula.args) formula.target formula.left formula.right (frames_of frames.items)) (grammar.Operator op) }
 {
-    match symbol {
-        Symbol::Operator(BinOp::Arith(Op::Add)) => Ok(Some(State::NeedWord { formula, frames })),
-        Symbol::Shut => {
-            let (name, args) = argument(formula)?;
-            Ok(Some(State::Have {
-                frames,
-                operand: Expr::Call { name, args },
-            }))
-        }
-        Symbol::Comma => {
-            let (name, args) = argument(formula)?;
-            frames.push(Frame::InCall {
-                name,
-                args,
-                target: None,
-            })?;
-            Ok(Some(State::Want { frames }))
-        }
-        _ => Ok(None),
+    match op {
+        BinOp::Arith(Op::Add) => Some(State::NeedWord { formula, frames }),
+        _ => None,
     }
 }
 
 /// The call that a formula stands in, with the formula as its last argument.
+#[tactic(auto, using(dt_grammar::proofs::Trees::trees))]
 fn argument(formula: Formula) -> Result<(Text, Items<Arg>), AllocError>
     ensures { IfOk result (λ call. call_of call ≡ (formula.call, grammar.MoreArgs (args_of formula.args) formula.target (grammar.Formula formula.left formula.right))) }
 {
@@ -221,6 +127,54 @@ fn argument(formula: Formula) -> Result<(Text, Items<Arg>), AllocError>
     } = formula;
     let args = with_arg(args, target, Expr::Formula { left, right })?;
     Ok((call, args))
+}
+
+/// `)` behind a formula, which is the last argument of its call.
+#[tactic(auto, using(dt_grammar::proofs::Trees::trees))]
+fn end_call(formula: Formula, frames: Vec<Frame>) -> Result<Option<State>, AllocError>
+    ensures { IfOk result (λ next. option_map state_of next
+        ≡ Some (model.Have (frames_of frames.items) (grammar.Call formula.call (grammar.MoreArgs (args_of formula.args) formula.target (grammar.Formula formula.left formula.right))))) }
+{
+    let (name, args) = argument(formula)?;
+    Ok(Some(State::Have {
+        frames,
+        operand: Expr::Call { name, args },
+    }))
+}
+
+/// `,` behind a formula: the next argument of its call begins.
+#[tactic(auto, using(crate::proofs::FrameViews::frames))]
+fn next_argument(formula: Formula, mut frames: Vec<Frame>) -> Result<Option<State>, AllocError>
+    ensures { IfOk result (λ next. option_map state_of next
+        ≡ Some (model.Want (model.InCall formula.call (grammar.MoreArgs (args_of formula.args) formula.target (grammar.Formula formula.left formula.right)) None ∷ frames_of frames.items))) }
+{
+    let (name, args) = argument(formula)?;
+    frames.push(Frame::InCall {
+        name,
+        args,
+        target: None,
+    })?;
+    Ok(Some(State::Want { frames }))
+}
+
+/// A token behind the names on the right of `~`.
+fn have_words(
+    formula: Formula,
+    frames: Vec<Frame>,
+    symbol: Symbol,
+) -> Result<Option<State>, AllocError>
+    ensures { IfOk result (λ next. option_map state_of next
+        ≡ model.step (model.HaveWords formula.call (args_of formula.args) formula.target formula.left formula.right (frames_of frames.items)) (symbol_of symbol)) }
+{
+    match symbol {
+        Symbol::Operator(op) => Ok(more_names(op, formula, frames)),
+        Symbol::Shut => end_call(formula, frames),
+        Symbol::Comma => next_argument(formula, frames),
+        other => {
+            drop((other, formula));
+            Ok(None)
+        }
+    }
 }
 
 /// What one more token makes of the state, or none where no script goes on so.
@@ -275,8 +229,15 @@ fn finish_stmt(
     last_stmt(frames, operand)
 }
 
-/// No statements, where a name or a `=` is still to come.
-fn unfinished(_state: State) -> Option<Items<Stmt>>
+/// No statements, where the name of an item is to come.
+fn finish_unnamed(_head: Head, _filled: Filled, _frames: Vec<Frame>) -> Option<Items<Stmt>>
+    ensures { result ≡ None }
+{
+    None
+}
+
+/// No statements, in a formula.
+fn finish_formula(_formula: Formula, _frames: Vec<Frame>) -> Option<Items<Stmt>>
     ensures { result ≡ None }
 {
     None
@@ -289,6 +250,18 @@ pub fn finish(alloc: Global, state: State) -> Result<Option<Items<Stmt>>, AllocE
     match state {
         State::Want { frames } => Ok(finish_none(frames)),
         State::Have { frames, operand } => finish_stmt(alloc, frames, operand),
-        other => Ok(unfinished(other)),
+        State::NeedName {
+            head,
+            filled,
+            frames,
+        } => Ok(finish_unnamed(head, filled, frames)),
+        State::NeedIs {
+            head,
+            filled,
+            name: _name,
+            frames,
+        } => Ok(finish_unnamed(head, filled, frames)),
+        State::NeedWord { formula, frames } => Ok(finish_formula(formula, frames)),
+        State::HaveWords { formula, frames } => Ok(finish_formula(formula, frames)),
     }
 }

@@ -2,7 +2,7 @@ use Rattle.std.proofs.Common.{arith, sym, ap, ◌∙◌, option_map}
 use Rattle.run_model.specs.TreeView.{stmts_of}
 use Rattle.dt_grammar.proofs.Loop.{fault_at_end, script_here}
 use Rattle.dt_script.specs.Frames.{state_of, symbol_of}
-use Rattle.dt_script.proofs.Reads.{goes_on, stops}
+use Rattle.dt_script.proofs.TokenLoop.{goes_on, stops}
 use Rattle.dt_script.proofs.reading.read.Goals as goal
 
 pub returns-in-None : goal.returns-in-None
