@@ -34,14 +34,14 @@ none_from (x ∷ xs) before e = none_from xs (MoreTails before x.0 x.1) (tail_na
 
 names_from : (xs : List TailTree) (before : Tails) (names so_far : List Word) → tail_names before ≡ Some so_far → option_map (λ more. names ++ more) (tail_names (tails_from before xs)) ≡ names_behind (names ++ so_far) xs
 names_from [] before names so_far e = ap (option_map (λ more. names ++ more)) e
-names_from (x ∷ xs) before names so_far e = by_name (added_name x) refl
+names_from (x ∷ xs) before names so_far e = by_name (added_name x) refl (λ y. names_from xs (MoreTails before x.0 x.1) names (so_far ++ y ∷ []))
   where
-    by_name : (r : Option Word) → added_name x ≡ r → option_map (λ more. names ++ more) (tail_names (tails_from (MoreTails before x.0 x.1) xs)) ≡ option_and_then (λ name. names_behind ((names ++ so_far) ++ name ∷ []) xs) r
-    by_name None f = ap (option_map (λ more. names ++ more)) (none_from xs (MoreTails before x.0 x.1) (tail_names-added before x.0 x.1 ∙ ap (option_and_then (λ y. option_map (λ ys. ys ++ y ∷ []) (tail_names before))) f))
-    by_name (Some y) f =
-        names_from xs (MoreTails before x.0 x.1) names (so_far ++ y ∷ [])
-        (tail_names-added before x.0 x.1 ∙ ap (option_and_then (λ z. option_map (λ ys. ys ++ z ∷ []) (tail_names before))) f ∙ ap (option_map (λ ys. ys ++ y ∷ [])) e)
-        ∙ ap (λ z. names_behind z xs) (sym (append_assoc names so_far (y ∷ [])))
+    at : (r : Option Word) → added_name x ≡ r → tail_names (MoreTails before x.0 x.1) ≡ option_and_then (λ y. option_map (λ ys. ys ++ y ∷ []) (tail_names before)) r
+    at r f = tail_names-added before x.0 x.1 ∙ ap (option_and_then (λ y. option_map (λ ys. ys ++ y ∷ []) (tail_names before))) f
+
+    by_name : (r : Option Word) → added_name x ≡ r → ((y : Word) → tail_names (MoreTails before x.0 x.1) ≡ Some (so_far ++ y ∷ []) → option_map (λ more. names ++ more) (tail_names (tails_from (MoreTails before x.0 x.1) xs)) ≡ names_behind (names ++ (so_far ++ y ∷ [])) xs) → option_map (λ more. names ++ more) (tail_names (tails_from (MoreTails before x.0 x.1) xs)) ≡ option_and_then (λ name. names_behind ((names ++ so_far) ++ name ∷ []) xs) r
+    by_name None f more = ap (option_map (λ ys. names ++ ys)) (none_from xs (MoreTails before x.0 x.1) (at None f))
+    by_name (Some y) f more = more y (at (Some y) f ∙ ap (option_map (λ ys. ys ++ y ∷ [])) e) ∙ ap (λ z. names_behind z xs) (sym (append_assoc names so_far (y ∷ [])))
 
 pub names_behind_is : (names : List Word) (rest : List Tail) → option_map (λ more. names ++ more) (tail_names (tails_of rest)) ≡ names_behind names (map tail_of rest)
 names_behind_is names rest = names_from (map tail_of rest) NoTails names [] refl ∙ ap (λ z. names_behind z (map tail_of rest)) (append-nil names)
