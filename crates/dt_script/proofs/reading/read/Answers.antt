@@ -7,12 +7,12 @@ use Rattle.dt_script.proofs.reading.read.Goals as goal
 
 pub returns-in-None : goal.returns-in-None
 returns-in-None c =
-    stops c.args.tokens.now c.loop-at.at c.loop-at-item.result (state_of c.loop-at.state) (symbol_of c.in_ok-next.next) c.loop-at-test.true c.loop-at-item.is c.in_ok-next.ensures c.loop-at.invariant
+    stops c.args.tokens.now c.loop-at.at c.index-tokens-at.result (state_of c.loop-at.state) (symbol_of c.in_ok-next.next) c.loop-at-test.true c.index-tokens-at.is c.in_ok-next.ensures c.loop-at.invariant
     (sym (ap (option_map state_of) c.in-None.is) ∙ c.in_ok-reached.ensures)
 
 pub loop-at-preserved : goal.loop-at-preserved
 loop-at-preserved c =
-    goes_on c.args.tokens.now c.loop-at.at c.loop-at-item.result (state_of c.loop-at.state) (symbol_of c.in_ok-next.next) c.loop-at-test.true c.loop-at-item.is c.in_ok-next.ensures c.loop-at.invariant _
+    goes_on c.args.tokens.now c.loop-at.at c.index-tokens-at.result (state_of c.loop-at.state) (symbol_of c.in_ok-next.next) c.loop-at-test.true c.index-tokens-at.is c.in_ok-next.ensures c.loop-at.invariant _
     (sym (ap (option_map state_of) c.in-Some.is) ∙ c.in_ok-reached.ensures)
 
 pub returns-in-Some-2 : goal.returns-in-Some-2
