@@ -1,10 +1,10 @@
 -- The bytes of a script are one script, or have one first fault, and not both.
-use Rattle.std.proofs.Common.{◌≡◌, ℕ, List, Ok, refl}
+use Rattle.std.proofs.Common.{ℕ, List, Ok, refl}
 use Rattle.dt_tree.specs.declared.fault.ScriptFault.{ScriptFault}
 use Rattle.dt_tree.specs.declared.fault.ScriptFault.TheVariants.{NotUtf8, Syntax, Number, TooDeep}
 use Rattle.dt_tree.specs.declared.token.Placed.{Placed}
 use Rattle.dt_tree.specs.declared.tree.Script.{Script}
-use Rattle.run_model.specs.Reading.{IsReadAs, IsRefused, IsFaultAt, fault_place, in_grammar}
+use Rattle.run_model.specs.Reading.{IsReadAs, IsRefused}
 use Rattle.run_model.specs.TokenLaws.{OneAnswer}
 use Rattle.run_model.specs.TokenView.{plain_tokens}
 use Rattle.run_model.specs.Tokens.{AreTokens, unmarked}

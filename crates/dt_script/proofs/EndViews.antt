@@ -1,11 +1,11 @@
 -- What a token that ends an expression makes of a frame, from the frame's parts.
-use Rattle.std.proofs.Common.{◌≡◌, ◌≢◌, ℕ, Bool, true, false, cond, List, [], ◌∷◌, ◌++◌, Option, Some, None, option_map, map, refl}
+use Rattle.std.proofs.Common.{◌≡◌, ◌≢◌, ℕ, true, false, List, [], ◌∷◌, Option, Some, None, option_map, map, refl}
 use Rattle.dt_tree.specs.declared.tree.Arg.{Arg}
-use Rattle.run_model.specs.GrammarTrees.{Word, Tree, Paren, Call, Args, NoArgs, MoreArgs, Stmt}
+use Rattle.run_model.specs.GrammarTrees.{Word, Tree, Paren, Call, Args, NoArgs, MoreArgs}
 use Rattle.run_model.specs.TreeView.{ArgTree, args_from, arg_of, args_of}
-use Rattle.dt_grammar.specs.Machine.{Frame, Front, Left, InParen, InCall, InItem, InNamed, InAssign, InStmt, State, Want, Have, query, item, next_item, shut_square_none, comma_none, comma, comma_item, break, last_stmt}
+use Rattle.dt_grammar.specs.Machine.{Frame, Front, Left, InParen, InCall, InItem, InNamed, InAssign, InStmt, Want, Have, query, item, next_item, shut_square_none, comma_none, comma, break, last_stmt}
 use Rattle.dt_script.specs.Steps.{empty_call, in_shut}
-use Rattle.dt_script.specs.Ends.{call_parts, stmt_parts, empty_item, is_paren, is_call, last_arg, with_stmt}
+use Rattle.dt_script.specs.Ends.{call_parts, empty_item, is_paren, is_call, last_arg, with_stmt}
 
 pub shut_square_none-frame : (f : Frame) (rest : List Frame) → shut_square_none (f ∷ rest) ≡ option_map (λ i. Have rest (query i.0 i.1)) (empty_item f)
 shut_square_none-frame (Front p) rest = refl
@@ -84,16 +84,6 @@ comma-item (InAssign h f l) rest t e = refl
 comma-item (InStmt ss n o) rest t e = refl
 
 pub ruleset commas = (comma-arg, comma-item)
-
-pub with_stmt-parts : (f : Frame) (t : Tree) → with_stmt f t ≡ option_map (λ s. s.0 ++ record { line = s.1; target = s.2; expr = t } ∷ []) (stmt_parts f)
-with_stmt-parts (Front p) t = refl
-with_stmt-parts (Left l tails op) t = refl
-with_stmt-parts InParen t = refl
-with_stmt-parts (InCall x args o) t = refl
-with_stmt-parts (InItem h f) t = refl
-with_stmt-parts (InNamed h f x) t = refl
-with_stmt-parts (InAssign h f l) t = refl
-with_stmt-parts (InStmt ss n o) t = refl
 
 pub break-stmt : (m : ℕ) (f : Frame) (rest : List Frame) (t : Tree) → break m (f ∷ rest, t) ≡ option_map (λ ss. Want (InStmt ss m None ∷ rest)) (with_stmt f t)
 break-stmt m (Front p) rest t = refl

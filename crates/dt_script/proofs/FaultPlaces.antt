@@ -1,7 +1,6 @@
 -- The place of a fault.
 use Rattle.std.proofs.Common.{◌≡◌, ℕ, zero, suc, ◌<◌, ◌≤◌, List, [], ◌∷◌, length, drop, cond, Bool, true, false, get_or, refl, sym, ap, arith, length-drop, nat_eq}
 use Rattle.std.specs.List.{starts_with}
-use Rattle.dt_tree.specs.declared.token.Place.{Place}
 use Rattle.dt_tree.specs.declared.token.Placed.{Placed}
 use Rattle.run_model.specs.Places.{place_at}
 use Rattle.run_model.specs.Tokens.{mark, unmarked}

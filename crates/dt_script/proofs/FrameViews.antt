@@ -1,5 +1,5 @@
 -- The view of the code's frames.
-use Rattle.std.proofs.Common.{◌≡◌, ◌≢◌, ℕ, zero, suc, ◌+◌, ◌-◌, Bool, true, false, cond, List, [], ◌∷◌, ◌++◌, length, Option, Some, None, slice_get, refl, ap, ◌∙◌, arith}
+use Rattle.std.proofs.Common.{◌≡◌, ℕ, zero, suc, ◌+◌, ◌-◌, cond, List, [], ◌∷◌, ◌++◌, length, Option, Some, None, slice_get, refl, ap, ◌∙◌, arith}
 use Rattle.dt_script.specs.declared.frames.Frame as frame_type
 use Rattle.run_model.specs.GrammarTrees.{Tree}
 use Rattle.dt_grammar.specs.Machine.{Frame, Front, Left, InParen, InCall, InItem, InNamed, InAssign, InStmt, close, demand}

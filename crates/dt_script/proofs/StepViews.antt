@@ -1,26 +1,20 @@
 -- The steps of the machine, frame by frame, and the view of what the code makes of a frame.
-use Rattle.std.proofs.Common.{◌≡◌, ◌≢◌, ℕ, Bool, true, false, cond, List, [], ◌∷◌, ◌++◌, Option, Some, None, option_map, map, refl, sym, ◌∙◌, ap, subst, rules}
+use Rattle.std.proofs.Common.{◌≡◌, ◌≢◌, ℕ, Bool, true, false, cond, List, [], ◌∷◌, ◌++◌, Option, Some, None, option_map, refl, sym, ◌∙◌, ap, subst}
 use Rattle.dt_tree.specs.declared.tree.Expr.{Expr, out-Expr, roll-Expr, roll-out-Expr}
 use Rattle.dt_tree.specs.declared.tree.Expr.TheOpen.{Expr-F}
 use Rattle.dt_tree.specs.declared.tree.Expr.TheOpen as layer
 use Rattle.dt_tree.specs.declared.tree.Expr.TheVariants as code
 use Rattle.dt_tree.specs.declared.tree.Second.{Second}
-use Rattle.dt_tree.specs.declared.tree.Second.TheVariants as second
 use Rattle.dt_tree.specs.declared.tree.Arg.{Arg}
 use Rattle.dt_tree.specs.declared.tree.Tail.{Tail}
 use Rattle.dt_tree.specs.declared.tree.Bracket.{Bracket, out-Bracket, roll-out-Bracket}
 use Rattle.dt_tree.specs.declared.tree.Stmt as stmt_type
-use Rattle.run_model.specs.GrammarTrees.{Word, Tree, Var, Call, Query, Given, Args, NoArgs, MoreArgs, Brackets, NoBrackets, MoreBrackets}
-use Rattle.run_model.specs.Grammar.{Filled, Nothing, UpToI, UpToJ, UpToBy, with_bracket, as_j, item_of, is_j, with_name}
-use Rattle.run_model.specs.TreeView.{tree_of, item_of_second, bracket_of, brackets_of, first_of, second_of, ArgTree, args_from, arg_of, args_of, stmt_of, stmts_of}
-use Rattle.dt_grammar.specs.Machine.{Frame, Front, Left, InParen, InCall, InItem, InNamed, InAssign, InStmt, State, Want, Have, head_of, query, item, comma_item, shut_none, shut, break_none, break, assign, name_top, arrow_top, opens, naming, next_item, infix_op, begin_chain, finish}
+use Rattle.run_model.specs.GrammarTrees.{Word, Tree, Var, Given, NoArgs, MoreArgs, Brackets, NoBrackets, MoreBrackets}
+use Rattle.run_model.specs.Grammar.{Filled, Nothing, UpToI, UpToJ, UpToBy, with_bracket, as_j, is_j, with_name}
+use Rattle.run_model.specs.TreeView.{tree_of, bracket_of, first_of, second_of, args_of, stmt_of, stmts_of}
+use Rattle.dt_grammar.specs.Machine.{Frame, Front, Left, InParen, InCall, InItem, InNamed, InAssign, InStmt, Want, Have, head_of, shut_none, shut, break_none, assign, name_top, arrow_top, opens, naming}
 use Rattle.dt_grammar.proofs.Trees.{tree_of-Lit, tree_of-Null, tree_of-Infinite, tree_of-Name, tree_of-Paren, tree_of-Minus, tree_of-Not, tree_of-Chain, tree_of-Call, tree_of-Query, tree_of-Formula, item_of_second-Value, item_of_second-Assign, item_of_second-AssignAll, bracket_of-roll, brackets_of-push}
-use Rattle.dt_script.specs.declared.frames.Frame as frame_type
-use Rattle.dt_script.specs.declared.frames.Frame.TheVariants as frame
-use Rattle.dt_script.specs.declared.frames.State as state_type
-use Rattle.dt_script.specs.declared.frames.State.TheVariants as state
-use Rattle.dt_script.specs.Frames.{frame_of, state_of}
-use Rattle.dt_script.specs.Steps.{bracket_tree, placed, empty_call, in_shut, empty_line, in_line, in_assign, in_naming, in_arrow}
+use Rattle.dt_script.specs.Steps.{bracket_tree, placed, empty_call, in_shut, empty_line, in_assign, in_naming, in_arrow}
 
 -- brackets
 pub with_bracket_is : (bs : Brackets) (f : Filled) → with_bracket bs f ≡ (let b = bracket_tree f in MoreBrackets bs b.first b.second b.third b.args)
@@ -177,16 +171,6 @@ break_none-frame m (InAssign h f l) rest = refl
 break_none-frame m (InStmt ss n None) rest = refl
 break_none-frame m (InStmt ss n (Some y)) rest = refl
 
-pub break-frame : (m : ℕ) (f : Frame) (rest : List Frame) (t : Tree) → break m (f ∷ rest, t) ≡ option_map (λ g. Want (g ∷ rest)) (in_line m f t)
-break-frame m (Front p) rest t = refl
-break-frame m (Left l tails op) rest t = refl
-break-frame m InParen rest t = refl
-break-frame m (InCall x args o) rest t = refl
-break-frame m (InItem h f) rest t = refl
-break-frame m (InNamed h f x) rest t = refl
-break-frame m (InAssign h f l) rest t = refl
-break-frame m (InStmt ss n o) rest t = refl
-
 assign_test : (b : Bool) (f : Frame) (rest : List Frame) → cond b (Some (Want (f ∷ rest))) None ≡ option_map (λ g. Want (g ∷ rest)) (cond b (Some f) None)
 assign_test true f rest = refl
 assign_test false f rest = refl
@@ -224,38 +208,10 @@ arrow-frame (InAssign h f l) rest x = refl
 arrow-frame (InStmt ss n None) rest x = refl
 arrow-frame (InStmt ss n (Some y)) rest x = refl
 
-pub ruleset steps = (shut_none-frame, shut-frame, break_none-frame, break-frame, assign-frame, naming-frame, arrow-frame)
+pub ruleset steps = (shut_none-frame, shut-frame, break_none-frame, assign-frame, naming-frame, arrow-frame)
 
 pub stmts_of-push : (ss : List stmt_type.Stmt) (s : stmt_type.Stmt) → stmts_of (ss ++ s ∷ []) ≡ stmts_of ss ++ stmt_of s ∷ []
 stmts_of-push [] s = refl
 stmts_of-push (x ∷ ss) s = ap (λ xs. stmt_of x ∷ xs) (stmts_of-push ss s)
 
 pub ruleset statements = (stmts_of-push)
-
-more_not_empty : (x : Word) (before : Args) (o : Option Word) (t : Tree) (xs : List ArgTree) → empty_call (InCall x (args_from (MoreArgs before o t) xs) None) ≡ None
-more_not_empty x before o t [] = refl
-more_not_empty x before o t (y ∷ xs) = more_not_empty x (MoreArgs before o t) y.0 y.1 xs
-
-pub call_not_empty : (x : Word) (xs : List Arg) → xs ≢ [] → empty_call (InCall x (args_of xs) None) ≡ None
-call_not_empty x [] h = absurd (h refl)
-call_not_empty x (y ∷ xs) h = more_not_empty x NoArgs (arg_of y).0 (arg_of y).1 (map arg_of xs)
-
-pub ruleset empties = (call_not_empty)
-
-pub comma_item_other : (f : frame_type.Frame) → ((x : Word) (args : List Arg) (o : Option Word) → f ≢ frame.InCall x args o) → (rest : List Frame) (t : Tree) → comma_item (frame_of f) rest t ≡ option_map (λ came. next_item came.0 came.1 rest) (item (frame_of f) t)
-comma_item_other (frame.Front p) h rest t = refl
-comma_item_other (frame.Left l tails op) h rest t = refl
-comma_item_other frame.InParen h rest t = refl
-comma_item_other (frame.InCall x args o) h rest t = absurd (h x args o refl)
-comma_item_other (frame.InItem a f) h rest t = refl
-comma_item_other (frame.InNamed a f x) h rest t = refl
-comma_item_other (frame.InAssign a f l) h rest t = refl
-comma_item_other (frame.InStmt ss n o) h rest t = refl
-
-pub finish_other : (s : state_type.State) → ((frames : _) → s ≢ state.Want frames) → ((frames : _) (t : Expr) → s ≢ state.Have frames t) → finish (state_of s) ≡ None
-finish_other (state.Want frames) h k = absurd (h frames refl)
-finish_other (state.Have frames t) h k = absurd (k frames t refl)
-finish_other (state.NeedName a f frames) h k = refl
-finish_other (state.NeedIs a f x frames) h k = refl
-finish_other (state.NeedWord f frames) h k = refl
-finish_other (state.HaveWords f frames) h k = refl

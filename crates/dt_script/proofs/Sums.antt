@@ -1,5 +1,5 @@
 -- The names of a sum of bare names, from left to right.
-use Rattle.std.proofs.Common.{◌≡◌, ◌≢◌, ℕ, suc, ◌+◌, ◌<◌, List, [], ◌∷◌, ◌++◌, length, get_or, drop, Option, Some, None, option_map, option_and_then, map, refl, sym, ◌∙◌, ap, subst, append_assoc, append-nil, add-one, arith}
+use Rattle.std.proofs.Common.{◌≡◌, ◌≢◌, ℕ, ◌+◌, ◌<◌, List, [], ◌∷◌, ◌++◌, length, get_or, drop, Option, Some, None, option_map, option_and_then, map, refl, sym, ◌∙◌, ap, subst, append_assoc, append-nil, add-one}
 use Rattle.std.proofs.Math.Seq.{drop-cons}
 use Rattle.dt_base.specs.declared.operators.Op.TheVariants.{Add}
 use Rattle.dt_tree.specs.declared.tree.BinOp.{BinOp}
@@ -15,7 +15,7 @@ use Rattle.dt_tree.specs.declared.tree.Tail.{Tail}
 use Rattle.run_model.specs.GrammarTrees.{Word, Tree, Var, Chain, Tails, NoTails, MoreTails}
 use Rattle.run_model.specs.TreeView.{TailTree, tails_from, tree_of, tail_of, tails_of}
 use Rattle.dt_grammar.specs.Machine.{tail_names, names_of}
-use Rattle.dt_grammar.proofs.Trees.{tree_of-Lit, tree_of-Null, tree_of-Infinite, tree_of-Name, tree_of-Paren, tree_of-Minus, tree_of-Not, tree_of-Chain, tree_of-Call, tree_of-Query, tree_of-Formula, tail_of_is}
+use Rattle.dt_grammar.proofs.Trees.{tree_of-Lit, tree_of-Null, tree_of-Infinite, tree_of-Paren, tree_of-Minus, tree_of-Not, tree_of-Chain, tree_of-Call, tree_of-Query, tree_of-Formula}
 use Rattle.dt_script.specs.Steps.{bare_name, name_added, added_name, names_behind}
 
 -- one operator more

@@ -6,7 +6,7 @@
 --   frame_of f       what has been begun
 --   frames_of fs     all of it, the innermost first
 --   state_of s       a state
-use Rattle.std.specs.Prelude.{◌≡◌, ℕ, suc, Bool, false, nat_le, List, [], ◌∷◌, ◌++◌, Option, Some, None, map}
+use Rattle.std.specs.Prelude.{ℕ, suc, Bool, false, nat_le, List, [], ◌∷◌}
 use Rattle.dt_tree.specs.declared.tree.Arg.{Arg}
 use Rattle.dt_tree.specs.declared.tree.Expr.{Expr}
 use Rattle.dt_script.specs.declared.frames.Prefix as prefix_type

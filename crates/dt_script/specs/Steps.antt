@@ -5,7 +5,6 @@
 --   empty_call f         ")" behind nothing
 --   in_shut f t          ")" behind the expression t
 --   empty_line m f       a break behind nothing, with the line of the next token
---   in_line m f t        a break behind the expression t
 --   in_assign f t        ":=" behind the expression t
 --   in_naming f x        "=" behind the name x
 --   in_arrow f x         "<-" behind the name x
@@ -49,10 +48,6 @@ in_shut _ t = None
 abbrev pub empty_line : ℕ → Frame → Option Frame
 empty_line m (InStmt ss n None) = Some (InStmt ss m None)
 empty_line m _ = None
-
-abbrev pub in_line : ℕ → Frame → Tree → Option Frame
-in_line m (InStmt ss n o) t = Some (InStmt (ss ++ record { line = n; target = o; expr = t } ∷ []) m None)
-in_line m _ t = None
 
 abbrev pub in_assign : Frame → Tree → Option Frame
 in_assign (InItem h f) t = if is_j f then Some (InAssign h f t) else None
