@@ -130,18 +130,15 @@ fn add_signed(out: &mut String, front: &str, arg: &Expr) -> Result<(), AllocErro
 }
 
 #[cycle(spelling)]
-fn add_chain(out: &mut String, first: &Expr, rest: &[Tail]) -> Result<(), AllocError> {
-    out.push_str("{")?;
-    add_expr(out, first)?;
+fn add_tails(out: &mut String, rest: &[Tail]) -> Result<(), AllocError> {
     for tail in rest {
         add_tail(out, tail)?;
     }
-    out.push_str("}")
+    Ok(())
 }
 
 #[cycle(spelling)]
-fn add_query(out: &mut String, head: &Expr, brackets: &[Bracket]) -> Result<(), AllocError> {
-    add_expr(out, head)?;
+fn add_brackets(out: &mut String, brackets: &[Bracket]) -> Result<(), AllocError> {
     for bracket in brackets {
         add_bracket(out, bracket)?;
     }
@@ -162,14 +159,22 @@ fn add_expr(out: &mut String, expr: &Expr) -> Result<(), AllocError> {
         }
         Expr::Minus { arg } => add_signed(out, "{-", arg.get()),
         Expr::Not { arg } => add_signed(out, "{!", arg.get()),
-        Expr::Chain { first, rest } => add_chain(out, first.get(), rest.as_slice()),
+        Expr::Chain { first, rest } => {
+            out.push_str("{")?;
+            add_expr(out, first.get())?;
+            add_tails(out, rest.as_slice())?;
+            out.push_str("}")
+        }
         Expr::Call { name, args } => {
             out.push_str(name.as_str())?;
             out.push_str("(")?;
             add_args(out, args.as_slice())?;
             out.push_str(")")
         }
-        Expr::Query { head, brackets } => add_query(out, head.get(), brackets.as_slice()),
+        Expr::Query { head, brackets } => {
+            add_expr(out, head.get())?;
+            add_brackets(out, brackets.as_slice())
+        }
         Expr::Formula { left, right } => {
             add_names(out, left)?;
             out.push_str("~")?;
