@@ -5,11 +5,12 @@
 //!   again.
 //!
 //! It stands on `dt_tokens` for the tokens, on `dt_grammar` for the lemmas of the grammar, and on
-//! `dt_misplaced` for the assignments in wrong places. It reads the tokens one by one, with a stack
-//! of what has been begun, and looks at no token twice.
+//! `dt_misplaced` for the assignments in wrong places. The grammar takes the tokens one by one,
+//! with a stack of what has been begun, and never goes back.
 //!
 //! It promises that a script is given exactly where the bytes spell it, and the fault exactly where
-//! it is the first. The time is linear in the bytes, and the stack grows with the nesting alone.
+//! it is the first. Time is linear in the bytes and the stack grows with the nesting alone, which
+//! no clause says and `script_table` tries.
 #![tactic(auto)]
 
 mod brackets;
