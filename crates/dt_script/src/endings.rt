@@ -40,6 +40,7 @@ fn empty_item(alloc: Global, frame: Frame) -> Option<(Head, Filled)>
     match frame {
         Frame::InItem { head, filled } => Some((head, with_item(alloc, filled, None))),
         other => {
+            // By a call, so that the proof has no case for each form that is dropped.
             drop(other);
             None
         }

@@ -55,6 +55,7 @@ fn in_naming(frame: Frame, name: Text) -> Option<Frame>
             target: Some(name),
         }),
         other => {
+            // By a call, so that the proof has no case for each form that is dropped.
             drop(other);
             None
         }

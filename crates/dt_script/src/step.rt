@@ -27,6 +27,7 @@ fn need_name(head: Head, filled: Filled, frames: Vec<Frame>, symbol: Symbol) -> 
             frames,
         }),
         other => {
+            // By a call, so that the proof has no case for each form that is dropped.
             drop((other, head, filled));
             None
         }
@@ -62,6 +63,7 @@ fn need_is(
     match symbol {
         Symbol::Is => begin_named(head, filled, name, frames),
         other => {
+            // By a call, so that the proof has no case for each form that is dropped.
             drop((other, head, filled));
             Ok(None)
         }
@@ -171,6 +173,7 @@ fn have_words(
         Symbol::Shut => end_call(formula, frames),
         Symbol::Comma => next_argument(formula, frames),
         other => {
+            // By a call, so that the proof has no case for each form that is dropped.
             drop((other, formula));
             Ok(None)
         }
