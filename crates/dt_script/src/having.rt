@@ -141,9 +141,8 @@ pub fn have(
         Symbol::Tilde => begin_formula(alloc, frames, operand),
         Symbol::Name(_) => Ok(refuse(frames, operand)),
         Symbol::Literal { .. } => Ok(refuse(frames, operand)),
-        Symbol::Null => Ok(refuse(frames, operand)),
-        Symbol::Infinite => Ok(refuse(frames, operand)),
-        Symbol::Bang => Ok(refuse(frames, operand)),
-        Symbol::Semicolon => Ok(refuse(frames, operand)),
+        Symbol::Null | Symbol::Infinite | Symbol::Bang | Symbol::Semicolon => {
+            Ok(refuse(frames, operand))
+        }
     }
 }

@@ -97,11 +97,11 @@ pub fn want(alloc: Global, frames: Vec<Frame>, symbol: Symbol) -> Result<Option<
         Symbol::ShutSquare => shut_square_none(alloc, frames),
         Symbol::Comma => comma_none(alloc, frames),
         Symbol::Break(next) => break_none(next, frames),
-        Symbol::Tilde => Ok(refuse(frames)),
-        Symbol::Assign => Ok(refuse(frames)),
-        Symbol::Arrow => Ok(refuse(frames)),
-        Symbol::Is => Ok(refuse(frames)),
-        Symbol::OpenSquare => Ok(refuse(frames)),
-        Symbol::Semicolon => Ok(refuse(frames)),
+        Symbol::Tilde
+        | Symbol::Assign
+        | Symbol::Arrow
+        | Symbol::Is
+        | Symbol::OpenSquare
+        | Symbol::Semicolon => Ok(refuse(frames)),
     }
 }
