@@ -14,6 +14,7 @@ use indexmap::IndexMap;
 pub(crate) type Names = IndexMap<String, Bound>;
 
 /// Whether some name is bound to the table of this number. It looks at the names in order.
+#[tactic(auto, using(crate::proofs::Plain::scan_has_name))]
 pub(crate) fn has_name(names: &Names, number: u64) -> bool
     ensures { result ≡ has_name (names_of (bounds_of names.now.entries)) number }
 {
