@@ -7,6 +7,7 @@ ghost use Rattle.dt_model.specs.State as model;
 ghost use Rattle.dt_table.specs.Plain.{plain};
 ghost use Rattle.dt_table.specs.Table.{TableSeen};
 ghost use Rattle.table_heap.specs.Alias.{looked, IsLookAt, aliased, alias_answer, remove_answer};
+ghost use Rattle.table_heap.specs.Heap.{IsHeap};
 ghost use Rattle.table_heap.specs.Lending.{with_table_at, LendsTable};
 ghost use Rattle.table_heap.specs.Names.{bounds_of};
 ghost use Rattle.table_heap.specs.Seen.{IsAt, IsTableAt};
@@ -72,8 +73,8 @@ impl Heap {
     /// The number of tables. It also says what is so of every heap.
     pub fn live(&self) -> usize
         ensures count { result ≡ finite.len (state_of self.now).tables }
+        ensures heap { IsHeap self.now.held }
         ensures state { model.IsState (state_of self.now) }
-        ensures named { model.IsNamed (state_of self.now) }
     {
         self.tables.len()
     }
