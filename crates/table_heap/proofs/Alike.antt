@@ -36,9 +36,10 @@ pub alike_state : (h : HeapSeen) → IsHeap h.held → Alike h (state_of h)
 alike_state h s = record {
   same = λ q. subst (SameAt h (state_of h) (get h.held.bounds q)) (sym (get-names h.held.bounds q)) (same_plain h (get h.held.bounds q) s.sound.apart (s.sound.there q));
   one = λ p q i j e f.
-    let at_p : get (names_of h.held.bounds) p ≡ Some (model.Table i.number) = get-names h.held.bounds p ∙ ap (option_map plain_bound) e in
-    let at_q : get (names_of h.held.bounds) q ≡ Some (model.Table j.number) = get-names h.held.bounds q ∙ ap (option_map plain_bound) f in
-    (λ same. at_p ∙ ap (λ (k : Id). Some (model.Table k.number)) same ∙ sym at_q,
-    λ same. one_id h s.sound.apart i j (subst (IsThere h.held.slots) e (s.sound.there p)) (subst (IsThere h.held.slots) f (s.sound.there q)) (number_of i.number j.number (sym at_p ∙ same ∙ at_q)));
+      let at_p : get (names_of h.held.bounds) p ≡ Some (model.Table i.number) = get-names h.held.bounds p ∙ ap (option_map plain_bound) e in
+      let at_q : get (names_of h.held.bounds) q ≡ Some (model.Table j.number) = get-names h.held.bounds q ∙ ap (option_map plain_bound) f in (
+        λ same. at_p ∙ ap (λ (k : Id). Some (model.Table k.number)) same ∙ sym at_q,
+        λ same. one_id h s.sound.apart i j (subst (IsThere h.held.slots) e (s.sound.there p)) (subst (IsThere h.held.slots) f (s.sound.there q)) (number_of i.number j.number (sym at_p ∙ same ∙ at_q)),
+      );
   live = sym (len-tables h.held.slots s.sound.apart);
 }

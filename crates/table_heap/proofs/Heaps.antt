@@ -132,10 +132,10 @@ module _ (h : Held) (p : List ℕ) (x : Bound) (bounds : Bounds) (slots : Slots)
   rebound_state =
       let names : names_of bounds ≡ insert (names_of h.bounds) p (plain_bound x) = ap names_of n ∙ names-insert h.bounds p x in
       let tables : tables_of slots ≡ swept (insert (names_of h.bounds) p (plain_bound x)) (tables_of h.slots) (get (names_of h.bounds) p) =
-        ap tables_of e
-        ∙ swept-tables bounds h.slots (get h.bounds p) s.apart (s.there p)
-        ∙ ap (λ m. swept m (tables_of h.slots) (option_map plain_bound (get h.bounds p))) names
-        ∙ ap (swept (insert (names_of h.bounds) p (plain_bound x)) (tables_of h.slots)) (sym (get-names h.bounds p)) in
+      ap tables_of e
+      ∙ swept-tables bounds h.slots (get h.bounds p) s.apart (s.there p)
+      ∙ ap (λ m. swept m (tables_of h.slots) (option_map plain_bound (get h.bounds p))) names
+      ∙ ap (swept (insert (names_of h.bounds) p (plain_bound x)) (tables_of h.slots)) (sym (get-names h.bounds p)) in
       λ i. record { names = names i; tables = tables i; next = h.next }
 
   pub rebound_sound : IsThere h.slots (Some x) → IsSound (record { bounds = bounds; slots = slots; next = h.next })
@@ -159,10 +159,10 @@ module _ (h : Held) (p : List ℕ) (bounds : Bounds) (slots : Slots) (n : bounds
   unbound_state =
       let names : names_of bounds ≡ remove (names_of h.bounds) p = ap names_of n ∙ names-remove h.bounds p in
       let tables : tables_of slots ≡ swept (remove (names_of h.bounds) p) (tables_of h.slots) (get (names_of h.bounds) p) =
-        ap tables_of e
-        ∙ swept-tables bounds h.slots (get h.bounds p) s.apart (s.there p)
-        ∙ ap (λ m. swept m (tables_of h.slots) (option_map plain_bound (get h.bounds p))) names
-        ∙ ap (swept (remove (names_of h.bounds) p) (tables_of h.slots)) (sym (get-names h.bounds p)) in
+      ap tables_of e
+      ∙ swept-tables bounds h.slots (get h.bounds p) s.apart (s.there p)
+      ∙ ap (λ m. swept m (tables_of h.slots) (option_map plain_bound (get h.bounds p))) names
+      ∙ ap (swept (remove (names_of h.bounds) p) (tables_of h.slots)) (sym (get-names h.bounds p)) in
       λ i. record { names = names i; tables = tables i; next = h.next }
 
   pub unbound_heap : IsNamed (state_in h) → IsHeap (record { bounds = bounds; slots = slots; next = h.next })

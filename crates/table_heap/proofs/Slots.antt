@@ -173,10 +173,10 @@ module _ (old new : Slots) (key n : ℕ) (v : Option Numbered) (s : SetsTable ol
   get-at =
       (elim v as (λ w. v ≡ w → get (tables_of new) n ≡ shown_table w) [
         | None ↦ λ e. get-unused new n (λ i x h g.
-          elim (cases_eq i key) [
-            | inl ik ↦ none_some (sym e ∙ sym s.sets.changed ∙ ap (slot_at new) (sym ik) ∙ h)
-            | inr id ↦ s.others i x id (before i x id h) g
-          ])
+            elim (cases_eq i key) [
+              | inl ik ↦ none_some (sym e ∙ sym s.sets.changed ∙ ap (slot_at new) (sym ik) ∙ h)
+              | inr id ↦ s.others i x id (before i x id h) g
+            ])
         | Some x ↦ λ e. ap (get (tables_of new)) (sym (s.now x e)) ∙ get-there new key x apart-set (s.sets.changed ∙ e)
       ]) refl
 

@@ -52,7 +52,7 @@ impl Model for Heap {
 
     ghost view = { λ h. record {
       held = record { bounds = bounds_of h.names.entries; slots = h.tables.slots; next = h.next };
-      room = room_of (spare h.names) (h.tables.capacity - slab_len h.tables) h.next
+      room = room_of (spare h.names) (h.tables.capacity - slab_len h.tables) h.next;
     } };
 
     ghost invariant = { λ h. IsHeap (record { bounds = bounds_of h.names.entries; slots = h.tables.slots; next = h.next }) };
@@ -150,7 +150,12 @@ impl Heap {
         ensures state { state_of self.new ≡ model.bound_to (state_of self.old) name (model.Vector column.vector) }
         ensures room { self.old.room ≤ self.new.room + 1 }
     {
-        rebind(&mut self.names, &mut self.tables, name, Bound::Vector(column));
+        rebind(
+            &mut self.names,
+            &mut self.tables,
+            name,
+            Bound::Vector(column),
+        );
     }
 
     /// Binds the name to a table that is live.
