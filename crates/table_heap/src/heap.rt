@@ -140,7 +140,8 @@ impl Heap {
     {
         let id = put_table(&mut self.tables, self.next, table);
         self.next += 1;
-        rebind(&mut self.names, &mut self.tables, name, Bound::Table(id));
+        let new = Bound::Table(id);
+        rebind(&mut self.names, &mut self.tables, name, new);
         id
     }
 
@@ -150,12 +151,8 @@ impl Heap {
         ensures state { state_of self.new ≡ model.bound_to (state_of self.old) name (model.Vector column.vector) }
         ensures room { self.old.room ≤ self.new.room + 1 }
     {
-        rebind(
-            &mut self.names,
-            &mut self.tables,
-            name,
-            Bound::Vector(column),
-        );
+        let vector = Bound::Vector(column);
+        rebind(&mut self.names, &mut self.tables, name, vector);
     }
 
     /// Binds the name to a table that is live.
@@ -166,7 +163,8 @@ impl Heap {
         ensures live { IsAt self.new id }
         ensures room { self.old.room ≤ self.new.room + 1 }
     {
-        rebind(&mut self.names, &mut self.tables, name, Bound::Table(id));
+        let shared = Bound::Table(id);
+        rebind(&mut self.names, &mut self.tables, name, shared);
     }
 
     /// Gives the table of the name `from` the name `to` as well.
