@@ -1,17 +1,15 @@
 -- What is so of every heap, and the state it stands for, after each change.
-use Rattle.std.proofs.Common.{◌≡◌, ◌⊎◌, ◌+◌, ◌<◌, ◌≤◌, ℕ, Bool, true, false, cond, List, [], Option, Some, None, IsSome, is_some, count_by, refl, sym, ap, subst, ◌∙◌, true≢false, inl, inr, nat_eq, arith, slice_set, length}
+use Rattle.std.proofs.Common.{◌≡◌, ◌+◌, ◌<◌, ◌≤◌, ℕ, Bool, true, false, cond, List, [], Option, Some, None, IsSome, is_some, count_by, refl, sym, ap, subst, ◌∙◌, true≢false, inl, inr, nat_eq, arith, slice_set}
 use Rattle.std.specs.Option.{option_map}
 use Rattle.std.specs.Ordering.{nat_cmp, eq_by_cmp}
 use Rattle.std.specs.Cmp.{unsigned_ties}
 use Rattle.std.specs.Cmp.Lexicographic.{slice_cmp, nat_list_cmp_total}
 use Rattle.std.specs.FinMap.{get, insert, remove, empty, get-insert, get-remove, get-empty}
 use Rattle.std.proofs.lemmas.Cmp.{nat_cmp_total, eq_by_cmp_equiv}
-use Rattle.std.proofs.lemmas.Bool.{cases_eq, eqb-true}
-use Rattle.std.proofs.lemmas.List.{get_or-set_other}
+use Rattle.std.proofs.lemmas.Bool.{cases_eq}
 use Rattle.std.proofs.lemmas.List.Sums.{sum_by-set}
 use Rattle.dt_model.specs.State as model
 use Rattle.dt_model.specs.State.{State, IsState, IsNamed, has_name, swept, bound_to, bound_new, removed, added, with_table}
-use Rattle.dt_model.specs.Table.{PlainTable}
 use Rattle.dt_model.proofs.States.{named_by}
 use Rattle.dt_model.proofs.Named.{bound_named, bound_new_named, removed_named}
 use Rattle.dt_table.specs.Plain.{plain}
@@ -25,7 +23,7 @@ use Rattle.table_heap.specs.State.{plain_bound, names_of, tables_of, state_in}
 use Rattle.table_heap.specs.Heap.{IsThere, IsApart, IsFresh, IsSound, IsHeap}
 use Rattle.table_heap.specs.Sweep.{swept_slots, SetsSlot}
 use Rattle.table_heap.proofs.Plain.{get-names, remove_absent, names-empty, names-insert, names-remove}
-use Rattle.table_heap.proofs.Slots.{place_of, one_number, place_within, IsUnused, get-there, get-unused, SetsTable, apart-set, tables-put, tables-taken, sets-new, sets-over, none_some, same_some, passed, hit, same_number, ties}
+use Rattle.table_heap.proofs.Slots.{place_of, one_number, place_within, IsUnused, get-there, get-unused, SetsTable, apart-set, tables-put, tables-taken, sets-new, sets-over, none_some, same_some, hit, same_number, ties}
 
 -- ---- the state of a sound heap
 

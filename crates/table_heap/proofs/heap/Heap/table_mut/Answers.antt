@@ -1,4 +1,4 @@
-use Rattle.std.proofs.Common.{◌≡◌, ◌∙◌, ◌-◌, ap, sym, refl, subst, Some, slice_set, count_by, is_some}
+use Rattle.std.proofs.Common.{◌≡◌, ◌∙◌, ◌-◌, ap, sym, refl, subst, Some, slice_set}
 use Rattle.indexmap.specs.IndexMap.{spare}
 use Rattle.dt_model.specs.State.{with_table}
 use Rattle.dt_table.specs.Plain.{plain}
