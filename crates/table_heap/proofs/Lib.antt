@@ -1,0 +1,5 @@
+pub mod Alike
+pub mod Bounds
+pub mod Heaps
+pub mod Plain
+pub mod Slots
