@@ -34,7 +34,7 @@ use Rattle.func_table.specs.Calls.{func_of, word_of, kind_of, is_later}
 use Rattle.run_model.specs.Csv.{written_csv}
 use Rattle.dt_model.specs.State.{Bound}
 use Rattle.session_model.specs.Then.{then_do}
-use Rattle.session_model.specs.Form.{Form, Literal, Negative, NullWord, InfWord, BareName, Other, negative, is_literal, is_bare_name, text_in, name_in}
+use Rattle.session_model.specs.Form.{Form, Literal, Negative, NullWord, InfWord, BareName, Other, literal_cell, negative, is_literal, is_bare_name, text_in, name_in}
 use Rattle.session_model.specs.Binding.{ArgNames, bound, place_of, is_free}
 use Rattle.session_model.specs.Value.{Value, Numbered, New, Cells, Null, Given, Scene, gives_value, one_cell, bound_value, new_table, gives_table, file_table, wanted_table, copied, printed_value}
 use Rattle.session_model.specs.Effect.{Effect, Remove, prints, writes, changes, does_nothing}
@@ -76,10 +76,11 @@ abbrev pub argument_vectors : List ArgMeaning → Result (List Vector) Fault
 argument_vectors [] = Ok []
 argument_vectors (a ∷ rest) = then_do (literal_vector a.means.form) (λ v. onto v (argument_vectors rest))
 
--- a column has the name that is written, and else V and its place, counted from 1
+-- A column has the name that is written, and else V and its place, counted from 1. No script writes
+-- an empty name; in a tree it counts as none.
 abbrev pub column_name : ℕ → Option (List ℕ) → List ℕ
-column_name p None = 86 ∷ decimal p
-column_name p (Some name) = name
+column_name p (Some (byte ∷ rest)) = byte ∷ rest
+column_name p _ = 86 ∷ decimal p
 
 -- the names of columns, of which the first stands at place p
 abbrev pub column_names : ℕ → List ArgMeaning → List (List ℕ)
@@ -116,22 +117,24 @@ arg_name a = a.name
 abbrev pub names_in : List ArgMeaning → ArgNames
 names_in args = map arg_name args
 
--- What the argument of a formal gives, where `before` formals before it are free. A call whose
--- arguments are bound has one for each formal.
-abbrev pub at_place : {A : Type 0} → List ArgMeaning → Option ℕ → (Meaning → Result A Fault) → Result A Fault
-at_place args None k = Err unbuilt
-at_place args (Some i) k = elim (slice_get args i) [ None ↦ Err unbuilt | Some a ↦ k a.means ]
+-- The argument at a place. A call whose arguments are bound has one for each formal.
+abbrev pub argument_at : List ArgMeaning → Option ℕ → Result Meaning Fault
+argument_at args None = Err unbuilt
+argument_at args (Some i) = elim (slice_get args i) [ None ↦ Err unbuilt | Some a ↦ Ok a.means ]
 
-abbrev pub argument : {A : Type 0} → List ArgMeaning → ℕ → Formal → (Meaning → Result A Fault) → Result A Fault
-argument args before p k = at_place args (place_of (names_in args) before p) k
+-- the argument that a formal takes, where `before` formals before it are free
+abbrev pub argument : List ArgMeaning → ℕ → Formal → Result Meaning Fault
+argument args before p = argument_at args (place_of (names_in args) before p)
 
 -- a table function, once its arguments are bound
 abbrev pub table_call : Func → List ArgMeaning → Scene → Result Given Fault
 table_call func.DataTable args w = data_table args
 table_call func.Fread args w =
-    argument args 0 formal.File (λ a. then_do (named_file a.form) (file_table w.files))
+    then_do (argument args 0 formal.File) (λ a. then_do (named_file a.form) (file_table w.files))
 table_call func.Copy args w =
-    argument args 0 formal.Table (λ a. then_do (a.gives w) (λ g. then_do (wanted_table w.state g.value) (λ t. gives_table (copied t))))
+    then_do (argument args 0 formal.Table) (λ a.
+    then_do (a.gives w) (λ g.
+    then_do (wanted_table w.state g.value) (λ t. gives_table (copied t))))
 table_call _ args w = Err unbuilt
 
 -- a command gives no value
@@ -178,13 +181,17 @@ removed_name name (Some b) = Ok (changes (Remove name))
 
 -- a command, once its arguments are bound
 abbrev pub command : Func → List ArgMeaning → Scene → Result Effect Fault
-command func.Library args w = argument args 0 formal.Package (λ a. known_package a.form)
-command func.Print args w = argument args 0 formal.Value (λ a. then_do (a.gives w) (printed_given w))
+command func.Library args w = then_do (argument args 0 formal.Package) (λ a. known_package a.form)
+command func.Print args w =
+    then_do (argument args 0 formal.Value) (λ a. then_do (a.gives w) (printed_given w))
 command func.Fwrite args w =
-    argument args 0 formal.Table (λ a. then_do (a.gives w) (λ g.
-    argument args (cond (is_free (names_in args) formal.Table) 1 0) formal.File (λ b. written_given w g b.form)))
+    then_do (argument args 0 formal.Table) (λ a.
+    then_do (a.gives w) (λ g.
+    then_do (argument args (cond (is_free (names_in args) formal.Table) 1 0) formal.File) (λ b.
+    written_given w g b.form)))
 command func.Rm args w =
-    argument args 0 formal.Name (λ a. then_do (bare_name a.form) (λ name. removed_name name (finite.get w.state.names name)))
+    then_do (argument args 0 formal.Name) (λ a.
+    then_do (bare_name a.form) (λ name. removed_name name (finite.get w.state.names name)))
 command _ args w = Err unbuilt
 
 -- the name and the doing of a command's call
@@ -211,7 +218,12 @@ negated form =
 
 abbrev pub expr_step : Expr-F Meaning Meaning ArgMeaning Meaning Meaning → Meaning
 expr_step (Expr-F.Lit cell kind) =
-    record { form = Literal cell kind; served = true; gives = λ w. gives_value (Cells (one_cell kind cell)); command = None }
+    record {
+      form = Literal (literal_cell kind cell) kind;
+      served = true;
+      gives = λ w. gives_value (Cells (one_cell kind (literal_cell kind cell)));
+      command = None;
+    }
 expr_step Expr-F.Null = record { form = NullWord; served = true; gives = λ w. gives_value Null; command = None }
 expr_step Expr-F.Infinite = record { form = InfWord; served = true; gives = λ w. Err (fault E04 (codes "Inf")); command = None }
 expr_step (Expr-F.Name name) =
