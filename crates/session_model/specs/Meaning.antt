@@ -9,7 +9,7 @@
 --   meaning e           the meaning of an expression
 -- A form that no statement serves yet has the fault `unbuilt`; `served` tells it before anything
 -- else is looked at.
-use Rattle.std.specs.Prelude.{ℕ, ◌+◌, ◌&&◌, not, cond, Bool, true, false, List, [], ◌∷◌, map, Option, None, Some, Result, Ok, Err, codes, decimal, slice_get}
+use Rattle.std.specs.Prelude.{ℕ, ◌+◌, ◌&&◌, not, cond, Bool, true, false, List, [], ◌∷◌, length, max, map, Option, None, Some, Result, Ok, Err, codes, decimal, slice_get}
 use Rattle.std.specs.List.{list_all}
 use Rattle.std.specs.Str.{bytes_eq}
 use Rattle.std.specs.FinMap as finite
@@ -87,11 +87,16 @@ abbrev pub column_names : ℕ → List ArgMeaning → List (List ℕ)
 column_names p [] = []
 column_names p (a ∷ rest) = column_name p a.name ∷ column_names (p + 1) rest
 
+-- the greatest length among vectors; of none it is 0
+abbrev pub longest : List Vector → ℕ
+longest [] = 0
+longest (v ∷ rest) = max (length v.cells) (longest rest)
+
 -- `data.table` of literals: a table of one row
 abbrev pub data_table : List ArgMeaning → Result Given Fault
 data_table args =
     then_do (argument_vectors args) (λ vectors.
-    then_do (new_table (column_names 1 args) 1 vectors) gives_table)
+    then_do (new_table (column_names 1 args) (longest vectors) vectors) gives_table)
 
 -- ---- Forms of arguments
 

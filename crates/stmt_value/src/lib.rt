@@ -1,0 +1,18 @@
+//! What an expression gives as the value of a statement: a table, a vector or NULL.
+//!
+//! - `value` answers it, or the first fault; `is_served` tells whether statements serve all forms of
+//!   an expression.
+//! - `argument`, `text_literal`, `bare_name`: what commands ask of their arguments.
+//! - `Value` and `Given` are what it answers; `ValueFail` says why it does not.
+//!
+//! It stands on the definitions of `session_model`, on `table_heap` for names, on `csv_edge` for
+//! files and on `arg_bind` for calls. It changes no name and no table. It promises exactly the value,
+//! the warnings or the first fault of the definition `meaning`, where files tell what they hold; and
+//! that each answer that blames a file comes only where the files counted it.
+#![tactic(auto)]
+
+mod forms;
+// mod literals;
+// mod new_table;
+
+pub use forms::{bare_name, is_served, text_literal};
