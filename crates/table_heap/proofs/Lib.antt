@@ -1,0 +1,4 @@
+pub mod Bounds
+pub mod Heaps
+pub mod Plain
+pub mod Slots

@@ -1,0 +1,13 @@
+//! What follows of every heap, as functions that do nothing.
+ghost use Rattle.table_heap.specs.Alike.{Alike};
+ghost use Rattle.table_heap.specs.State.{state_of};
+
+use crate::Heap;
+
+/// A heap and its state are alike: the same names, with equal vectors and with tables that read the
+/// same; one Id exactly where the state has one number; and as many tables.
+pub fn alike(heap: &Heap)
+    ensures { Alike heap.now (state_of heap.now) }
+{
+    let _facts = heap.live();
+}
