@@ -2,7 +2,7 @@
 //!
 //! - `value` answers it, or the first fault; `is_served` tells whether statements serve all forms of
 //!   an expression.
-//! - `argument`, `text_literal`, `bare_name`: what commands ask of their arguments.
+//! - `argument`, `named_file`, `bare_name`, `wanted_table`: what commands ask of their arguments.
 //! - `Value` and `Given` are what it answers; `ValueFail` says why it does not.
 //!
 //! It stands on the definitions of `session_model`, on `table_heap` for names, on `csv_edge` for
@@ -11,8 +11,16 @@
 //! that each answer that blames a file comes only where the files counted it.
 #![tactic(auto)]
 
+mod fail;
+mod files;
 mod forms;
-// mod literals;
-// mod new_table;
+mod given;
+mod literals;
+mod new_table;
+mod values;
 
-pub use forms::{bare_name, is_served, text_literal};
+pub use fail::{ValueFail, refusal};
+pub use forms::{bare_name, is_served};
+pub use given::{Given, Value};
+pub use literals::unbuilt;
+pub use values::{argument, named_file, value, wanted_table};

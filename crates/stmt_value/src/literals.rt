@@ -1,16 +1,17 @@
 ghost use Rattle.std.specs.Prelude.{◌≡◌, IfOk, length};
-ghost use Rattle.dt_model.specs.Vector.{Vector};
-ghost use Rattle.session_model.specs.Form.{literal_cell};
-ghost use Rattle.session_model.specs.Value.{one_cell};
-ghost use Rattle.session_model.specs.Meaning.{meaning, literal_vector, unbuilt};
+ghost use Rattle.dt_base.specs.declared.cell.Cell.TheVariants as is;
+ghost use Rattle.dt_base.specs.declared.cell.ColType.TheVariants as ty;
 ghost use Rattle.arg_bind.specs.Answers.{AnswersAs, IsStop};
-ghost use Rattle.stmt_value.specs.Views.{vector_of};
+ghost use Rattle.session_model.specs.Form.{literal_cell};
+ghost use Rattle.session_model.specs.Meaning.{meaning, negated, literal_vector, unbuilt};
+ghost use Rattle.session_model.specs.Value.{one_cell};
+ghost use Rattle.stmt_value.specs.Values.{vector_of};
 
 use crate::forms::negative;
 use arg_bind::{EvalFail, stop};
 use dt_base::{Cell, Code, ColType, Text};
 use dt_tree::Expr;
-use na_vector::{Column, NA_LGL};
+use na_vector::Column;
 use std::alloc::{AllocError, Global};
 
 /// The fault of a form that no statement serves yet.
@@ -20,27 +21,33 @@ pub fn unbuilt(alloc: Global) -> EvalFail
     stop(alloc, Code::E19, "unbuilt")
 }
 
-fn integer_cell(alloc: Global, n: i64) -> Result<Column, AllocError>
+/// The vector of one integer.
+pub fn integer(alloc: Global, n: i64) -> Result<Column, AllocError>
     ensures { IfOk result (λ c. c.vector ≡ one_cell ty.Int (literal_cell ty.Int (is.Int n))) }
 {
     Ok(Column::from_ints(vec![in alloc; n]?))
 }
 
-fn truth_cell(alloc: Global, b: bool) -> Result<Column, AllocError>
+/// The vector of one truth value.
+fn truth(alloc: Global, b: bool) -> Result<Column, AllocError>
     ensures { IfOk result (λ c. c.vector ≡ one_cell ty.Lgl (is.Lgl b)) }
 {
-    let word: u8 = if b { 1 } else { 0 };
-    Ok(Column::from_lgls(vec![in alloc; word]?))
+    let mut column = Column::new(alloc, ColType::Lgl);
+    column.push(Cell::Lgl(b))?;
+    Ok(column)
 }
 
-fn text_cell(alloc: Global, text: &Text) -> Result<Column, AllocError>
+/// The vector of one text.
+fn text(alloc: Global, text: &Text) -> Result<Column, AllocError>
     ensures { IfOk result (λ c. c.vector ≡ one_cell ty.Chr (is.Text text.now)) }
 {
-    let own = text.copy()?;
-    Column::from_texts(vec![in alloc; Some(own)]?)
+    let mut column = Column::new(alloc, ColType::Chr);
+    column.push(Cell::Text(text.copy()?))?;
+    Ok(column)
 }
 
-fn na_cell(alloc: Global, kind: ColType) -> Result<Column, AllocError>
+/// The vector of one NA.
+fn missing(alloc: Global, kind: ColType) -> Result<Column, AllocError>
     ensures { IfOk result (λ c. c.vector ≡ one_cell kind is.Na) }
 {
     let mut column = Column::new(alloc, kind);
@@ -49,22 +56,37 @@ fn na_cell(alloc: Global, kind: ColType) -> Result<Column, AllocError>
 }
 
 /// The vector of one literal.
-pub fn one_cell(alloc: Global, kind: ColType, cell: &Cell) -> Result<Column, AllocError>
+pub fn literal(alloc: Global, kind: ColType, cell: &Cell) -> Result<Column, AllocError>
     ensures { IfOk result (λ c. c.vector ≡ one_cell kind (literal_cell kind cell.now)) }
 {
     match (kind, cell) {
-        (ColType::Lgl, Cell::Lgl(b)) => truth_cell(alloc, *b),
-        (ColType::Int, Cell::Int(n)) => integer_cell(alloc, *n),
-        (ColType::Chr, Cell::Text(text)) => text_cell(alloc, text),
-        _ => na_cell(alloc, kind),
+        (ColType::Lgl, Cell::Lgl(b)) => truth(alloc, *b),
+        (ColType::Int, Cell::Int(n)) => integer(alloc, *n),
+        (ColType::Chr, Cell::Text(written)) => text(alloc, written),
+        _ => missing(alloc, kind),
     }
 }
 
-/// A column, or want of memory.
-fn held(column: Result<Column, AllocError>) -> Result<Column, EvalFail>
+/// The negative of an integer literal.
+fn negative_vector(alloc: Global, e: &Expr) -> Result<Column, EvalFail>
+    ensures { AnswersAs vector_of (literal_vector (negated (meaning e.now).form).form) result }
 {
-    match column {
-        Ok(column) => Ok(column),
-        Err(error) => Err(EvalFail::NoMemory(error)),
+    match negative(e) {
+        Some(n) => Ok(integer(alloc, n)?),
+        None => Err(unbuilt(alloc)),
+    }
+}
+
+/// The vector that a literal writes, with `-` before an integer allowed. `NULL` and `Inf` have no
+/// type: E04 with the word.
+pub fn literal_vector(alloc: Global, e: &Expr) -> Result<Column, EvalFail>
+    ensures { AnswersAs vector_of (literal_vector (meaning e.now).form) result }
+{
+    match e {
+        Expr::Lit { cell, kind } => Ok(literal(alloc, *kind, cell)?),
+        Expr::Minus { arg } => negative_vector(alloc, arg.get()),
+        Expr::Null => Err(stop(alloc, Code::E04, "NULL")),
+        Expr::Infinite => Err(stop(alloc, Code::E04, "Inf")),
+        _ => Err(unbuilt(alloc)),
     }
 }

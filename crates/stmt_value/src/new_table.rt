@@ -1,0 +1,136 @@
+ghost use Rattle.std.specs.Prelude.{◌≡◌, ◌<◌, ◌+◌, ◌∷◌, ◌++◌, [], All, IfOk, OnOk, OnErr, length, map, vec_len, slice_get, Some};
+ghost use Rattle.arg_bind.specs.Answers.{AnswersAs, IsStop};
+ghost use Rattle.dt_base.specs.Fault.{fault};
+ghost use Rattle.dt_base.specs.declared.fault.Code.TheVariants.{E12};
+ghost use Rattle.dt_model.specs.Table.{name_at};
+ghost use Rattle.dt_table.specs.Table.{IsFilled};
+ghost use Rattle.na_vector.specs.Frame.{vectors_of};
+ghost use Rattle.session_model.specs.Meaning.{arg_meaning, argument_vectors, column_name, column_names, longest, data_table};
+ghost use Rattle.session_model.specs.Value.{new_table};
+ghost use Rattle.dt_table.specs.Plain.{plain};
+ghost use Rattle.stmt_value.specs.Fails.{IsMakeStop, IsNoMemory};
+ghost use Rattle.stmt_value.specs.Values.{new_given};
+
+use crate::literals::literal_vector;
+use arg_bind::{EvalFail, stop, stop_number};
+use dt_base::limits::MAX_COLUMNS;
+use dt_base::{Code, ColName, Text};
+use dt_table::{MakeFail, Table};
+use dt_tree::Arg;
+use na_vector::{Column, Frame};
+use std::alloc::{AllocError, Global};
+
+/// The name of the column at a place, counted from 1: the one that is written, and else V and the
+/// place.
+fn column_name(alloc: Global, place: usize, name: &Option<Text>) -> Result<ColName, AllocError>
+    ensures name { IfOk result (λ n. n ≡ column_name place name.now) }
+    ensures filled { IfOk result IsFilled }
+{
+    match name {
+        Some(name) => written_name(alloc, place, name.as_str()),
+        None => Ok(Text::from_string(format!(in alloc; "V{place}")?)),
+    }
+}
+
+fn written_name(alloc: Global, place: usize, name: &str) -> Result<ColName, AllocError>
+    ensures name { IfOk result (λ n. n ≡ column_name place (Some name.now)) }
+    ensures filled { IfOk result IsFilled }
+{
+    if name.is_empty() {
+        return Ok(Text::from_string(format!(in alloc; "V{place}")?));
+    }
+    Text::make(alloc, name)
+}
+
+/// The names of the columns that these arguments give.
+fn column_names(alloc: Global, args: &[Arg]) -> Result<Vec<ColName>, AllocError>
+    ensures names { IfOk result (λ v. v.items ≡ column_names 1 (map arg_meaning args.now)) }
+    ensures filled { IfOk result (λ v. All IsFilled v.items) }
+{
+    let mut names = Vec::new(alloc);
+    for (i, arg) in args.iter().enumerate() {
+        names.push(column_name(alloc, i + 1, &arg.name)?)?;
+    }
+    Ok(names)
+}
+
+/// Adds a column of one cell to a frame of such columns.
+fn add_column(frame: &mut Frame, column: Column) -> Result<(), EvalFail>
+    requires one { length column.vector.cells ≡ 1 }
+    requires ones { 0 < length frame.old.columns → frame.old.rows ≡ 1 }
+    ensures columns { OnOk result (frame.new.columns ≡ frame.old.columns ++ column ∷ []) }
+    ensures rows { OnOk result (frame.new.rows ≡ 1) }
+    ensures refused { IfErr result IsNoMemory }
+{
+    Ok(frame.push_col(column)?)
+}
+
+/// The columns that literals give, each of one cell.
+fn literal_columns(alloc: Global, args: &[Arg]) -> Result<Frame, EvalFail>
+    ensures columns { AnswersAs (λ f. vectors_of f.columns) (argument_vectors (map arg_meaning args.now)) result }
+    ensures rows { IfOk result (λ f. f.rows ≡ longest (vectors_of f.columns)) }
+    ensures count { IfOk result (λ f. length f.columns ≡ length args.now) }
+{
+    let mut frame = Frame::new(alloc);
+    for arg in args {
+        let column = literal_vector(alloc, &arg.value)?;
+        add_column(&mut frame, column)?;
+    }
+    Ok(frame)
+}
+
+/// The fault of a name that stands twice, which is that of the argument at a place.
+fn repeated(alloc: Global, args: &[Arg], place: usize) -> EvalFail
+    ensures { IsStop (fault E12 (name_at (column_names 1 (map arg_meaning args.now)) place)) result }
+{
+    match args.get(place) {
+        Some(arg) => repeated_name(alloc, place + 1, arg),
+        None => stop(alloc, Code::E12, ""),
+    }
+}
+
+fn repeated_name(alloc: Global, place: usize, arg: &Arg) -> EvalFail
+    ensures { IsStop (fault E12 (column_name place arg.now.name)) result }
+{
+    match column_name(alloc, place, &arg.name) {
+        Ok(name) => stop(alloc, Code::E12, name.as_str()),
+        Err(error) => EvalFail::NoMemory(error),
+    }
+}
+
+/// The fault of a table that is not made of what these arguments give.
+fn make_stop(alloc: Global, args: &[Arg], fail: MakeFail) -> EvalFail
+    ensures { IsMakeStop (column_names 1 (map arg_meaning args.now)) fail result }
+{
+    match fail {
+        MakeFail::Duplicate { col } => repeated(alloc, args, col),
+        MakeFail::TooManyRows => stop(alloc, Code::E07, ""),
+        MakeFail::TooManyCells => stop(alloc, Code::E08, ""),
+        MakeFail::TooManyColumns => stop_number(alloc, Code::E09, MAX_COLUMNS as u64),
+        MakeFail::NoMemory(error) => EvalFail::NoMemory(error),
+    }
+}
+
+/// The table of these columns, under the names that these arguments give.
+fn made(alloc: Global, args: &[Arg], frame: Frame) -> Result<Table, EvalFail>
+    requires { length frame.columns ≡ length args.now }
+    ensures { AnswersAs plain (new_table (column_names 1 (map arg_meaning args.now)) frame.rows (vectors_of frame.columns)) result }
+{
+    let names = column_names(alloc, args)?;
+    match Table::make(alloc, names, frame) {
+        Ok(table) => Ok(table),
+        Err(fail) => Err(make_stop(alloc, args, fail)),
+    }
+}
+
+/// The table of one row that `data.table` makes of literals.
+///
+/// `NULL` and `Inf` are refused (E04 with the word); then a name that stands twice (E12 with it);
+/// then more than 4,096 columns (E09). The manual's page data.table; the order is dtq's own,
+/// docs/LANGUAGE.md, section "Tables".
+pub fn data_table(alloc: Global, args: &[Arg]) -> Result<Table, EvalFail>
+    ensures { AnswersAs new_given (data_table (map arg_meaning args.now)) result }
+{
+    let frame = literal_columns(alloc, args)?;
+    made(alloc, args, frame)
+}
