@@ -1,19 +1,12 @@
 -- What contracts see of a value.
 --   plain_value v     a table by its number or as a plain table, a column as its vector, or NULL
 --   plain_given g     a value and its warnings
---   new_given t       a new table without warnings
---   file_given p      a table that was read, and its warnings
 --   scene held heap   the files and the state that a statement meets
 --   IsValueIn h v     a table that has an Id is live
 --   IsNew v           a table of its own
 use Rattle.std.specs.Prelude.{Option}
-use Rattle.dt_base.specs.declared.warns.Warns.{Warns}
-use Rattle.dt_base.specs.Warns.{no_warns}
-use Rattle.dt_model.specs.Vector.{Vector}
 use Rattle.dt_table.specs.Plain.{plain}
-use Rattle.dt_table.specs.Table.{TableSeen}
 use Rattle.dt_world.specs.Told.{FileMap}
-use Rattle.na_vector.specs.Column.{Seen}
 use Rattle.session_model.specs.Value as model
 use Rattle.session_model.specs.World.{look}
 use Rattle.table_heap.specs.Seen.{HeapSeen, IsAt}
@@ -21,10 +14,6 @@ use Rattle.table_heap.specs.State.{state_of}
 use Rattle.stmt_value.specs.declared.given.Value.{Value}
 use Rattle.stmt_value.specs.declared.given.Value.TheVariants.{Named, New, Cells, Kept, Null}
 use Rattle.stmt_value.specs.declared.given.Given.{Given}
-
--- the vector of a column
-abbrev pub vector_of : Seen → Vector
-vector_of c = c.vector
 
 -- a table by its number or as a plain table, a column as its vector, or NULL
 abbrev pub plain_value : Value → model.Value
@@ -37,14 +26,6 @@ plain_value Null = model.Null
 -- a value and its warnings
 abbrev pub plain_given : Given → model.Given
 plain_given g = record { value = plain_value g.value; warns = g.warns }
-
--- a new table without warnings
-abbrev pub new_given : TableSeen → model.Given
-new_given t = record { value = model.New (plain t); warns = no_warns }
-
--- a table that was read, and its warnings
-abbrev pub file_given : TableSeen × Warns → model.Given
-file_given p = record { value = model.New (plain p.0); warns = p.1 }
 
 -- the files and the state that a statement meets
 abbrev pub scene : Option FileMap → HeapSeen → model.Scene

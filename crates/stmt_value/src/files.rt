@@ -7,7 +7,7 @@ ghost use Rattle.run_model.specs.Csv.{read_csv};
 ghost use Rattle.stmt_value.specs.Answers.{Gives, IsStop};
 ghost use Rattle.arg_bind.specs.Answers.{AnswersAs};
 ghost use Rattle.stmt_value.specs.Fails.{IsFileStop};
-ghost use Rattle.stmt_value.specs.Values.{file_given};
+ghost use Rattle.stmt_value.specs.Made.{file_given};
 
 use crate::fail::{ValueFail, refusal};
 use arg_bind::{EvalFail, stop, stop_number};

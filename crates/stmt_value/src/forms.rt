@@ -1,9 +1,10 @@
-ghost use Rattle.std.specs.Prelude.{◌≡◌, option_map, map};
+ghost use Rattle.std.specs.Prelude.{◌≡◌, IfSome, option_map, map};
 ghost use Rattle.std.specs.List.{list_all};
 ghost use Rattle.func_table.specs.Calls.{func_of};
 ghost use Rattle.session_model.specs.Form.{Literal, literal_cell, text_in, name_in, negative, is_literal, is_bare_name};
 ghost use Rattle.dt_base.specs.declared.cell.Cell.TheVariants as is;
 ghost use Rattle.dt_base.specs.declared.cell.ColType.TheVariants as ty;
+ghost use Rattle.stmt_value.specs.Made.{IsNumber};
 ghost use Rattle.session_model.specs.Meaning.{meaning, arg_meaning, fits_args, call_served};
 
 use dt_base::limits::NA_WORD;
@@ -36,7 +37,8 @@ pub fn bare_name(e: &Expr) -> Option<&str>
 
 /// The integer that `-` before this expression writes, where it is an integer literal.
 pub fn negative(e: &Expr) -> Option<i64>
-    ensures { result ≡ negative (meaning e.now).form }
+    ensures value { result ≡ negative (meaning e.now).form }
+    ensures fits { IfSome result IsNumber }
 {
     match e {
         Expr::Lit {
@@ -49,7 +51,8 @@ pub fn negative(e: &Expr) -> Option<i64>
 
 /// The negative of an integer that a cell may hold.
 fn negated(n: i64) -> Option<i64>
-    ensures { result ≡ negative (Literal (literal_cell ty.Int (is.Int n)) ty.Int) }
+    ensures value { result ≡ negative (Literal (literal_cell ty.Int (is.Int n)) ty.Int) }
+    ensures fits { IfSome result IsNumber }
 {
     if n == NA_WORD { None } else { Some(-n) }
 }

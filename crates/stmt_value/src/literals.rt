@@ -5,7 +5,7 @@ ghost use Rattle.arg_bind.specs.Answers.{AnswersAs, IsStop};
 ghost use Rattle.session_model.specs.Form.{literal_cell};
 ghost use Rattle.session_model.specs.Meaning.{meaning, negated, literal_vector, unbuilt};
 ghost use Rattle.session_model.specs.Value.{one_cell};
-ghost use Rattle.stmt_value.specs.Values.{vector_of};
+ghost use Rattle.stmt_value.specs.Made.{vector_of, IsNumber};
 
 use crate::forms::negative;
 use arg_bind::{EvalFail, stop};
@@ -21,9 +21,10 @@ pub fn unbuilt(alloc: Global) -> EvalFail
     stop(alloc, Code::E19, "unbuilt")
 }
 
-/// The vector of one integer.
+/// The vector of one integer; -2^63 is NA.
 pub fn integer(alloc: Global, n: i64) -> Result<Column, AllocError>
-    ensures { IfOk result (λ c. c.vector ≡ one_cell ty.Int (literal_cell ty.Int (is.Int n))) }
+    ensures word { IfOk result (λ c. c.vector ≡ one_cell ty.Int (literal_cell ty.Int (is.Int n))) }
+    ensures number { IsNumber n → IfOk result (λ c. c.vector ≡ one_cell ty.Int (is.Int n)) }
 {
     Ok(Column::from_ints(vec![in alloc; n]?))
 }
@@ -69,7 +70,8 @@ pub fn literal(alloc: Global, kind: ColType, cell: &Cell) -> Result<Column, Allo
 
 /// The negative of an integer literal.
 fn negative_vector(alloc: Global, e: &Expr) -> Result<Column, EvalFail>
-    ensures { AnswersAs vector_of (literal_vector (negated (meaning e.now).form).form) result }
+    ensures vector { AnswersAs vector_of (literal_vector (negated (meaning e.now).form).form) result }
+    ensures one { IfOk result (λ c. length c.vector.cells ≡ 1) }
 {
     match negative(e) {
         Some(n) => Ok(integer(alloc, n)?),
@@ -80,7 +82,8 @@ fn negative_vector(alloc: Global, e: &Expr) -> Result<Column, EvalFail>
 /// The vector that a literal writes, with `-` before an integer allowed. `NULL` and `Inf` have no
 /// type: E04 with the word.
 pub fn literal_vector(alloc: Global, e: &Expr) -> Result<Column, EvalFail>
-    ensures { AnswersAs vector_of (literal_vector (meaning e.now).form) result }
+    ensures vector { AnswersAs vector_of (literal_vector (meaning e.now).form) result }
+    ensures one { IfOk result (λ c. length c.vector.cells ≡ 1) }
 {
     match e {
         Expr::Lit { cell, kind } => Ok(literal(alloc, *kind, cell)?),

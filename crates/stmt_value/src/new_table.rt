@@ -1,15 +1,15 @@
-ghost use Rattle.std.specs.Prelude.{◌≡◌, ◌<◌, ◌+◌, ◌∷◌, ◌++◌, [], All, IfOk, OnOk, OnErr, length, map, vec_len, slice_get, Some};
+ghost use Rattle.std.specs.Prelude.{◌≡◌, ◌<◌, ◌+◌, ◌∷◌, ◌++◌, [], All, IfOk, IfErr, OnOk, length, map, Some};
 ghost use Rattle.arg_bind.specs.Answers.{AnswersAs, IsStop};
 ghost use Rattle.dt_base.specs.Fault.{fault};
 ghost use Rattle.dt_base.specs.declared.fault.Code.TheVariants.{E12};
 ghost use Rattle.dt_model.specs.Table.{name_at};
 ghost use Rattle.dt_table.specs.Table.{IsFilled};
 ghost use Rattle.na_vector.specs.Frame.{vectors_of};
-ghost use Rattle.session_model.specs.Meaning.{arg_meaning, argument_vectors, column_name, column_names, longest, data_table};
+ghost use Rattle.session_model.specs.Meaning.{arg_meaning, argument_vectors, literal_vector, column_name, column_names, longest, data_table};
 ghost use Rattle.session_model.specs.Value.{new_table};
 ghost use Rattle.dt_table.specs.Plain.{plain};
 ghost use Rattle.stmt_value.specs.Fails.{IsMakeStop, IsNoMemory};
-ghost use Rattle.stmt_value.specs.Values.{new_given};
+ghost use Rattle.stmt_value.specs.Made.{new_given, vector_of};
 
 use crate::literals::literal_vector;
 use arg_bind::{EvalFail, stop, stop_number};
@@ -46,6 +46,7 @@ fn written_name(alloc: Global, place: usize, name: &str) -> Result<ColName, Allo
 fn column_names(alloc: Global, args: &[Arg]) -> Result<Vec<ColName>, AllocError>
     ensures names { IfOk result (λ v. v.items ≡ column_names 1 (map arg_meaning args.now)) }
     ensures filled { IfOk result (λ v. All IsFilled v.items) }
+    ensures count { IfOk result (λ v. length v.items ≡ length args.now) }
 {
     let mut names = Vec::new(alloc);
     for (i, arg) in args.iter().enumerate() {
@@ -65,6 +66,14 @@ fn add_column(frame: &mut Frame, column: Column) -> Result<(), EvalFail>
     Ok(frame.push_col(column)?)
 }
 
+/// The column that an argument gives, of one cell.
+fn literal_column(alloc: Global, arg: &Arg) -> Result<Column, EvalFail>
+    ensures vector { AnswersAs vector_of (literal_vector (arg_meaning arg.now).means.form) result }
+    ensures one { IfOk result (λ c. length c.vector.cells ≡ 1) }
+{
+    literal_vector(alloc, &arg.value)
+}
+
 /// The columns that literals give, each of one cell.
 fn literal_columns(alloc: Global, args: &[Arg]) -> Result<Frame, EvalFail>
     ensures columns { AnswersAs (λ f. vectors_of f.columns) (argument_vectors (map arg_meaning args.now)) result }
@@ -73,27 +82,28 @@ fn literal_columns(alloc: Global, args: &[Arg]) -> Result<Frame, EvalFail>
 {
     let mut frame = Frame::new(alloc);
     for arg in args {
-        let column = literal_vector(alloc, &arg.value)?;
+        let column = literal_column(alloc, arg)?;
         add_column(&mut frame, column)?;
     }
     Ok(frame)
 }
 
-/// The fault of a name that stands twice, which is that of the argument at a place.
-fn repeated(alloc: Global, args: &[Arg], place: usize) -> EvalFail
-    ensures { IsStop (fault E12 (name_at (column_names 1 (map arg_meaning args.now)) place)) result }
+/// The fault of a name that stands twice, which is the one at this place.
+fn repeated(alloc: Global, names: &[ColName], place: usize) -> EvalFail
+    ensures { IsStop (fault E12 (name_at names.now place)) result }
 {
-    match args.get(place) {
-        Some(arg) => repeated_name(alloc, place + 1, arg),
+    match names.get(place) {
+        Some(name) => stop(alloc, Code::E12, name.as_str()),
         None => stop(alloc, Code::E12, ""),
     }
 }
 
-fn repeated_name(alloc: Global, place: usize, arg: &Arg) -> EvalFail
-    ensures { IsStop (fault E12 (column_name place arg.now.name)) result }
+/// The fault of a name that stands twice among those that these arguments give.
+fn repeated_argument(alloc: Global, args: &[Arg], place: usize) -> EvalFail
+    ensures { IsStop (fault E12 (name_at (column_names 1 (map arg_meaning args.now)) place)) result }
 {
-    match column_name(alloc, place, &arg.name) {
-        Ok(name) => stop(alloc, Code::E12, name.as_str()),
+    match column_names(alloc, args) {
+        Ok(names) => repeated(alloc, &names, place),
         Err(error) => EvalFail::NoMemory(error),
     }
 }
@@ -103,7 +113,7 @@ fn make_stop(alloc: Global, args: &[Arg], fail: MakeFail) -> EvalFail
     ensures { IsMakeStop (column_names 1 (map arg_meaning args.now)) fail result }
 {
     match fail {
-        MakeFail::Duplicate { col } => repeated(alloc, args, col),
+        MakeFail::Duplicate { col } => repeated_argument(alloc, args, col),
         MakeFail::TooManyRows => stop(alloc, Code::E07, ""),
         MakeFail::TooManyCells => stop(alloc, Code::E08, ""),
         MakeFail::TooManyColumns => stop_number(alloc, Code::E09, MAX_COLUMNS as u64),
