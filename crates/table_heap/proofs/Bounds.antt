@@ -1,7 +1,7 @@
 -- The map of names: what a look-up by text finds, and what one change does.
 use Rattle.std.proofs.Common.{◌≡◌, ℕ, List, [], ◌∷◌, map, Bool, true, false, cond, Option, Some, None, refl, sym, ap, ◌∙◌, string_bytes, String, Global, ◌||◌, length, arith}
 use Rattle.std.specs.Ordering.{nat_cmp, eq_by_cmp, is_eq}
-use Rattle.std.specs.Cmp.Lexicographic.{slice_cmp, texts_ties, nat_list_cmp_total, nat_list_eq_equiv, bytes_decides}
+use Rattle.std.specs.Cmp.Lexicographic.{slice_cmp, texts_ties, nat_list_cmp_total, bytes_decides}
 use Rattle.std.specs.FinMap.{find, put, get, insert, remove, entries, empty, len-entries, len-empty, get-entries, get-from_entries, get-insert, get-remove, entries-insert, same_map, slice_cmp-IsAntisymmetric, nat_cmp-IsAntisymmetric}
 use Rattle.std.specs.FinMap.Entries.{by_order}
 use Rattle.std.specs.Map.{lookup, IsKeyTest, AreApart, KeepsOthers, keys_of, values_of}

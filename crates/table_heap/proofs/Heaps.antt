@@ -1,16 +1,15 @@
 -- What is so of every heap, and the state it stands for, after each change.
-use Rattle.std.proofs.Common.{◌≡◌, ◌⊎◌, ◌+◌, ◌<◌, ◌≤◌, ℕ, Bool, true, false, cond, List, [], Option, Some, None, IsSome, is_some, refl, sym, ap, subst, ◌∙◌, true≢false, inl, inr, nat_eq, arith, slice_set, length}
+use Rattle.std.proofs.Common.{◌≡◌, ◌+◌, ◌<◌, ◌≤◌, ℕ, Bool, true, false, cond, List, [], Option, Some, None, IsSome, is_some, count_by, refl, sym, ap, subst, ◌∙◌, true≢false, inl, inr, nat_eq, arith, slice_set}
 use Rattle.std.specs.Option.{option_map}
 use Rattle.std.specs.Ordering.{nat_cmp, eq_by_cmp}
 use Rattle.std.specs.Cmp.{unsigned_ties}
 use Rattle.std.specs.Cmp.Lexicographic.{slice_cmp, nat_list_cmp_total}
 use Rattle.std.specs.FinMap.{get, insert, remove, empty, get-insert, get-remove, get-empty}
 use Rattle.std.proofs.lemmas.Cmp.{nat_cmp_total, eq_by_cmp_equiv}
-use Rattle.std.proofs.lemmas.Bool.{cases_eq, eqb-true}
-use Rattle.std.proofs.lemmas.List.{get_or-set_other}
+use Rattle.std.proofs.lemmas.Bool.{cases_eq}
+use Rattle.std.proofs.lemmas.List.Sums.{sum_by-set}
 use Rattle.dt_model.specs.State as model
 use Rattle.dt_model.specs.State.{State, IsState, IsNamed, has_name, swept, bound_to, bound_new, removed, added, with_table}
-use Rattle.dt_model.specs.Table.{PlainTable}
 use Rattle.dt_model.proofs.States.{named_by}
 use Rattle.dt_model.proofs.Named.{bound_named, bound_new_named, removed_named}
 use Rattle.dt_table.specs.Plain.{plain}
@@ -23,8 +22,8 @@ use Rattle.table_heap.specs.Seen.{Bounds, Slots, Held, slot_at, HasNumber}
 use Rattle.table_heap.specs.State.{plain_bound, names_of, tables_of, state_in}
 use Rattle.table_heap.specs.Heap.{IsThere, IsApart, IsFresh, IsSound, IsHeap}
 use Rattle.table_heap.specs.Sweep.{swept_slots, SetsSlot}
-use Rattle.table_heap.proofs.Plain.{get-names, names-empty, names-insert, names-remove}
-use Rattle.table_heap.proofs.Slots.{place_of, one_number, place_within, IsUnused, get-there, get-unused, SetsTable, apart-set, tables-put, tables-taken, sets-new, sets-over, none_some, same_some, passed, hit, same_number, ties}
+use Rattle.table_heap.proofs.Plain.{get-names, remove_absent, names-empty, names-insert, names-remove}
+use Rattle.table_heap.proofs.Slots.{place_of, one_number, place_within, IsUnused, get-there, get-unused, SetsTable, apart-set, tables-put, tables-taken, sets-new, sets-over, none_some, same_some, hit, same_number, ties}
 
 -- ---- the state of a sound heap
 
@@ -131,14 +130,20 @@ module _ (h : Held) (p : List ℕ) (x : Bound) (bounds : Bounds) (slots : Slots)
   rebound_state =
       let names : names_of bounds ≡ insert (names_of h.bounds) p (plain_bound x) = ap names_of n ∙ names-insert h.bounds p x in
       let tables : tables_of slots ≡ swept (insert (names_of h.bounds) p (plain_bound x)) (tables_of h.slots) (get (names_of h.bounds) p) =
-        ap tables_of e
-        ∙ swept-tables bounds h.slots (get h.bounds p) s.apart (s.there p)
-        ∙ ap (λ m. swept m (tables_of h.slots) (option_map plain_bound (get h.bounds p))) names
-        ∙ ap (swept (insert (names_of h.bounds) p (plain_bound x)) (tables_of h.slots)) (sym (get-names h.bounds p)) in
+      ap tables_of e
+      ∙ swept-tables bounds h.slots (get h.bounds p) s.apart (s.there p)
+      ∙ ap (λ m. swept m (tables_of h.slots) (option_map plain_bound (get h.bounds p))) names
+      ∙ ap (swept (insert (names_of h.bounds) p (plain_bound x)) (tables_of h.slots)) (sym (get-names h.bounds p)) in
       λ i. record { names = names i; tables = tables i; next = h.next }
 
   pub rebound_sound : IsThere h.slots (Some x) → IsSound (record { bounds = bounds; slots = slots; next = h.next })
   rebound_sound t = renamed_sound h p (Some x) bounds slots (λ q. ap (λ b. get b q) n ∙ get-insert nat_list_cmp_total h.bounds p x q) e s t
+
+  -- what the name is bound to is there still
+  pub rebound_there : IsThere h.slots (Some x) → IsThere slots (Some x)
+  rebound_there t =
+      let found : get bounds p ≡ Some x = ap (λ b. get b p) n ∙ get-insert nat_list_cmp_total h.bounds p x p ∙ hit (eq_by_cmp (slice_cmp nat_cmp) p p) (Some x) (get h.bounds p) ((eq_by_cmp_equiv nat_list_cmp_total).refl p) in
+      subst (IsThere slots) found ((rebound_sound t).there p)
 
   pub rebound_heap : IsThere h.slots (Some x) → IsNamed (state_in h) → IsHeap (record { bounds = bounds; slots = slots; next = h.next })
   rebound_heap t named = record {
@@ -152,10 +157,10 @@ module _ (h : Held) (p : List ℕ) (bounds : Bounds) (slots : Slots) (n : bounds
   unbound_state =
       let names : names_of bounds ≡ remove (names_of h.bounds) p = ap names_of n ∙ names-remove h.bounds p in
       let tables : tables_of slots ≡ swept (remove (names_of h.bounds) p) (tables_of h.slots) (get (names_of h.bounds) p) =
-        ap tables_of e
-        ∙ swept-tables bounds h.slots (get h.bounds p) s.apart (s.there p)
-        ∙ ap (λ m. swept m (tables_of h.slots) (option_map plain_bound (get h.bounds p))) names
-        ∙ ap (swept (remove (names_of h.bounds) p) (tables_of h.slots)) (sym (get-names h.bounds p)) in
+      ap tables_of e
+      ∙ swept-tables bounds h.slots (get h.bounds p) s.apart (s.there p)
+      ∙ ap (λ m. swept m (tables_of h.slots) (option_map plain_bound (get h.bounds p))) names
+      ∙ ap (swept (remove (names_of h.bounds) p) (tables_of h.slots)) (sym (get-names h.bounds p)) in
       λ i. record { names = names i; tables = tables i; next = h.next }
 
   pub unbound_heap : IsNamed (state_in h) → IsHeap (record { bounds = bounds; slots = slots; next = h.next })
@@ -271,6 +276,23 @@ module _ (h : Held) (id : Id) (w : TableSeen) (s : IsSound h) (at : HasNumber id
             | false ↦ λ e f. f
           ]) refl (sym (ap is_some (get-insert nat_cmp_total (tables_of h.slots) id.number (plain w) k)) ∙ g)
 
+  -- the number of what stood there is the Id's
+  module _ (x : Numbered) (e : Some x ≡ slot_at h.slots id.slot) where
+    pub number_there : x.number ≡ id.number
+    number_there = subst (HasNumber id.number) (sym e) at
+
+    pub written_through : IsNamed (state_in h) → IsHeap (record { bounds = h.bounds; slots = slice_set h.slots id.slot (Some (record { number = x.number; table = w })); next = h.next })
+    written_through named = subst (λ k. IsHeap (record { bounds = h.bounds; slots = slice_set h.slots id.slot (Some (record { number = k; table = w })); next = h.next })) (sym number_there) (written_heap named)
+
+level : (a b x : ℕ) → a + x ≡ b + 1 → x ≡ 1 → a ≡ b
+level a b x e one = omega arith
+
+-- as many places are filled as before
+pub written_count : (slots : Slots) (k n : ℕ) (y : Numbered) → HasNumber n (slot_at slots k) → count_by is_some (slice_set slots k (Some y)) ≡ count_by is_some slots
+written_count slots k n y h =
+    let p = place_of n (slot_at slots k) h in
+    level _ _ _ (sum_by-set (λ o. cond (is_some o) 1 0) slots k (Some y) None (place_within slots k n h)) (ap (λ (o : Option Numbered). cond (is_some o) 1 0) p.1)
+
 -- ---- no name and no table
 
 pub empty_heap : (bounds : Bounds) (slots : Slots) → bounds ≡ empty → slots ≡ [] → IsHeap (record { bounds = bounds; slots = slots; next = 0 })
@@ -288,3 +310,21 @@ pub empty_state_is : (bounds : Bounds) (slots : Slots) → bounds ≡ empty → 
 empty_state_is bounds slots b s =
     let names : names_of bounds ≡ empty = ap names_of b ∙ names-empty in
     λ i. record { names = names i; tables = tables_of (s i); next = 0 }
+
+-- to remove a name that is not bound changes nothing
+pub removed_absent : (s : State) (q : List ℕ) → get s.names q ≡ None → removed s q ≡ s
+removed_absent s q h =
+    let names : remove s.names q ≡ s.names = remove_absent s.names q h in
+    λ i. record { names = names i; tables = swept (remove s.names q) s.tables (h i); next = s.next }
+
+-- ---- what a look and an Id find
+
+-- what a name is bound to, plainly
+pub looked_at : (b : Bounds) (q : List ℕ) (o : Option Bound) → o ≡ get b q → option_map plain_bound o ≡ get (names_of b) q
+looked_at b q o e = ap (option_map plain_bound) e ∙ sym (get-names b q)
+
+-- the table at the Id's place is the state's under its number
+pub seen_table : (slots : Slots) (k n : ℕ) (x : Numbered) → IsApart slots → Some x ≡ slot_at slots k → HasNumber n (slot_at slots k) → get (tables_of slots) n ≡ Some (plain x.table)
+seen_table slots k n x a e h =
+    let same : x.number ≡ n = subst (HasNumber n) (sym e) h in
+    ap (get (tables_of slots)) (sym same) ∙ get-there slots k x a (sym e)

@@ -1,12 +1,12 @@
 -- The places of the tables: where a number is found, and what a change of one place does.
-use Rattle.std.proofs.Common.{◌≡◌, ◌≢◌, ◌⊎◌, ◌+◌, ◌<◌, ℕ, zero, suc, Bool, true, false, cond, List, [], ◌∷◌, length, Option, Some, None, is_some, IsSome, count_by, refl, sym, ap, subst, ◌∙◌, true≢false, inl, inr, arith, slice_set}
+use Rattle.std.proofs.Common.{◌≡◌, ◌≢◌, ◌⊎◌, ◌+◌, ◌<◌, ℕ, zero, suc, Bool, true, false, cond, [], ◌∷◌, length, Option, Some, None, is_some, count_by, refl, sym, ap, ◌∙◌, true≢false, inl, inr, arith, slice_set}
 use Rattle.std.specs.Option.{option_map}
 use Rattle.std.specs.Ordering.{nat_cmp, eq_by_cmp}
 use Rattle.std.specs.Cmp.{unsigned_ties}
-use Rattle.std.specs.FinMap.{find, get, insert, remove, from_entries, contains_key, len, len-empty, len-insert, get-from_entries, get-insert, get-remove, same_map, nat_cmp-IsAntisymmetric}
+use Rattle.std.specs.FinMap.{find, get, insert, remove, len, len-empty, len-insert, get-from_entries, get-insert, get-remove, same_map, nat_cmp-IsAntisymmetric}
 use Rattle.std.proofs.lemmas.Cmp.{nat_cmp_total, eq_by_cmp_equiv}
 use Rattle.std.proofs.lemmas.Bool.{cases_eq, eqb-true}
-use Rattle.std.proofs.lemmas.List.{get_or-set_same, get_or-set_other, get_or_past}
+use Rattle.std.proofs.lemmas.List.{get_or-set_same, get_or-set_other}
 use Rattle.std.proofs.lemmas.List.Sums.{sum_by-cons}
 use Rattle.dt_model.specs.Table.{PlainTable}
 use Rattle.dt_model.specs.State.{Tables}
@@ -14,7 +14,7 @@ use Rattle.dt_table.specs.Plain.{plain}
 use Rattle.table_heap.specs.declared.bound.Numbered.{Numbered}
 use Rattle.table_heap.specs.Seen.{Slots, slot_at, HasNumber}
 use Rattle.table_heap.specs.State.{numbered_tables, tables_of}
-use Rattle.table_heap.specs.Heap.{IsApart, IsFresh}
+use Rattle.table_heap.specs.Heap.{IsApart}
 use Rattle.table_heap.specs.Sweep.{SetsSlot}
 
 pub none_some : {A : Type 0} {x : A} → None ≡ Some x → ⊥
@@ -173,10 +173,10 @@ module _ (old new : Slots) (key n : ℕ) (v : Option Numbered) (s : SetsTable ol
   get-at =
       (elim v as (λ w. v ≡ w → get (tables_of new) n ≡ shown_table w) [
         | None ↦ λ e. get-unused new n (λ i x h g.
-          elim (cases_eq i key) [
-            | inl ik ↦ none_some (sym e ∙ sym s.sets.changed ∙ ap (slot_at new) (sym ik) ∙ h)
-            | inr id ↦ s.others i x id (before i x id h) g
-          ])
+            elim (cases_eq i key) [
+              | inl ik ↦ none_some (sym e ∙ sym s.sets.changed ∙ ap (slot_at new) (sym ik) ∙ h)
+              | inr id ↦ s.others i x id (before i x id h) g
+            ])
         | Some x ↦ λ e. ap (get (tables_of new)) (sym (s.now x e)) ∙ get-there new key x apart-set (s.sets.changed ∙ e)
       ]) refl
 

@@ -26,5 +26,9 @@ SameAt h s _ _ = ⊥
 -- binds them to one number; and as many places are filled as the state has tables
 pub record Alike (h : HeapSeen) (s : model.State) : Type 0 where
   pub same : (q : List ℕ) → SameAt h s (finite.get h.held.bounds q) (finite.get s.names q)
-  pub one : (p q : List ℕ) (i j : Id) → finite.get h.held.bounds p ≡ Some (Table i) → finite.get h.held.bounds q ≡ Some (Table j) → (i ≡ j) ↔ (finite.get s.names p ≡ finite.get s.names q)
+  pub one :
+      (p q : List ℕ) (i j : Id) →
+      finite.get h.held.bounds p ≡ Some (Table i) →
+      finite.get h.held.bounds q ≡ Some (Table j) →
+      (i ≡ j) ↔ (finite.get s.names p ≡ finite.get s.names q)
   pub live : count_by is_some h.held.slots ≡ finite.len s.tables

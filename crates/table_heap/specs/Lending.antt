@@ -12,7 +12,11 @@ use Rattle.table_heap.specs.contracts.heap.Heap.{the_row}
 -- one place has become w, with its number as before
 abbrev pub with_table_at : HeapSeen → Id → TableSeen → HeapSeen
 with_table_at h id w =
-    record h { held = record h.held { slots = slice_set h.held.slots id.slot (Some (record { number = id.number; table = w })) } }
+    record h {
+      held = record h.held {
+        slots = slice_set h.held.slots id.slot (Some (record { number = id.number; table = w }));
+      };
+    }
 
 -- the heap ends with the last table behind r at the Id's place
 abbrev pub LendsTable : MutBor HeapSeen → Id → MutBor TableSeen → Fml

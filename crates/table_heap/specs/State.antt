@@ -4,7 +4,7 @@
 --   tables_of slots  the plain tables by their numbers
 --   state_in held    the state of what is held
 --   state_of h       the state of a heap
-use Rattle.std.specs.Prelude.{ℕ, List, [], ◌∷◌, map, Option, None, Some}
+use Rattle.std.specs.Prelude.{ℕ, List, [], ◌∷◌, map, None, Some}
 use Rattle.std.specs.FinMap as finite
 use Rattle.dt_model.specs.State as model
 use Rattle.dt_model.specs.Table.{PlainTable}

@@ -7,6 +7,7 @@ ghost use Rattle.dt_model.specs.State as model;
 ghost use Rattle.dt_table.specs.Plain.{plain};
 ghost use Rattle.dt_table.specs.Table.{TableSeen};
 ghost use Rattle.table_heap.specs.Alias.{looked, IsLookAt, aliased, alias_answer, remove_answer};
+ghost use Rattle.table_heap.specs.Heap.{IsHeap};
 ghost use Rattle.table_heap.specs.Lending.{with_table_at, LendsTable};
 ghost use Rattle.table_heap.specs.Names.{bounds_of};
 ghost use Rattle.table_heap.specs.Seen.{IsAt, IsTableAt};
@@ -51,7 +52,7 @@ impl Model for Heap {
 
     ghost view = { λ h. record {
       held = record { bounds = bounds_of h.names.entries; slots = h.tables.slots; next = h.next };
-      room = room_of (spare h.names) (h.tables.capacity - slab_len h.tables) h.next
+      room = room_of (spare h.names) (h.tables.capacity - slab_len h.tables) h.next;
     } };
 
     ghost invariant = { λ h. IsHeap (record { bounds = bounds_of h.names.entries; slots = h.tables.slots; next = h.next }) };
@@ -72,8 +73,8 @@ impl Heap {
     /// The number of tables. It also says what is so of every heap.
     pub fn live(&self) -> usize
         ensures count { result ≡ finite.len (state_of self.now).tables }
+        ensures heap { IsHeap self.now.held }
         ensures state { model.IsState (state_of self.now) }
-        ensures named { model.IsNamed (state_of self.now) }
     {
         self.tables.len()
     }
@@ -139,7 +140,8 @@ impl Heap {
     {
         let id = put_table(&mut self.tables, self.next, table);
         self.next += 1;
-        rebind(&mut self.names, &mut self.tables, name, Bound::Table(id));
+        let new = Bound::Table(id);
+        rebind(&mut self.names, &mut self.tables, name, new);
         id
     }
 
@@ -149,7 +151,8 @@ impl Heap {
         ensures state { state_of self.new ≡ model.bound_to (state_of self.old) name (model.Vector column.vector) }
         ensures room { self.old.room ≤ self.new.room + 1 }
     {
-        rebind(&mut self.names, &mut self.tables, name, Bound::Vector(column));
+        let vector = Bound::Vector(column);
+        rebind(&mut self.names, &mut self.tables, name, vector);
     }
 
     /// Binds the name to a table that is live.
@@ -160,7 +163,8 @@ impl Heap {
         ensures live { IsAt self.new id }
         ensures room { self.old.room ≤ self.new.room + 1 }
     {
-        rebind(&mut self.names, &mut self.tables, name, Bound::Table(id));
+        let shared = Bound::Table(id);
+        rebind(&mut self.names, &mut self.tables, name, shared);
     }
 
     /// Gives the table of the name `from` the name `to` as well.

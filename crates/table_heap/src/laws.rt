@@ -9,5 +9,5 @@ use crate::Heap;
 pub fn alike(heap: &Heap)
     ensures { Alike heap.now (state_of heap.now) }
 {
-    let _facts = heap.live();
+    let _count = heap.live();
 }

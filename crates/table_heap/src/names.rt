@@ -64,5 +64,5 @@ pub(crate) fn take_name(names: &mut Names, name: &str) -> Option<Bound>
     ensures old { result ≡ finite.get (bounds_of names.old.entries) name.now }
     ensures spare { spare names.old ≤ spare names.new }
 {
-    names.shift_remove(name)
+    names.swap_remove(name)
 }
