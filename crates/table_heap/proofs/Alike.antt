@@ -11,7 +11,7 @@ use Rattle.table_heap.specs.State.{plain_bound, names_of, state_of}
 use Rattle.table_heap.specs.Heap.{IsThere, IsApart, IsHeap}
 use Rattle.table_heap.specs.Alike.{SameAt, Alike}
 use Rattle.table_heap.proofs.Plain.{get-names}
-use Rattle.table_heap.proofs.Slots.{place_of, get-there, len-tables}
+use Rattle.table_heap.proofs.Slots.{place_of, get-there, count_tables}
 
 -- what is bound is the same plainly
 same_plain : (h : HeapSeen) (o : Option Bound) → IsApart h.held.slots → IsThere h.held.slots o → SameAt h (state_of h) o (option_map plain_bound o)
@@ -41,5 +41,5 @@ alike_state h s = record {
         λ same. at_p ∙ ap (λ (k : Id). Some (model.Table k.number)) same ∙ sym at_q,
         λ same. one_id h s.sound.apart i j (subst (IsThere h.held.slots) e (s.sound.there p)) (subst (IsThere h.held.slots) f (s.sound.there q)) (number_of i.number j.number (sym at_p ∙ same ∙ at_q)),
       );
-  live = sym (len-tables h.held.slots s.sound.apart);
+  live = sym (count_tables h.held.slots s.sound.apart);
 }

@@ -122,14 +122,14 @@ used_or_not (Some y ∷ rest) k =
 len-cons : (m : Tables) (k : ℕ) (t : PlainTable) → get m k ≡ None → len (insert m k t) ≡ len m + 1
 len-cons m k t h = len-insert nat_cmp_total m k t ∙ ap (λ o. cond (is_some o) (len m) (len m + 1)) h
 
-pub len-tables : (slots : Slots) → IsApart slots → len (tables_of slots) ≡ count_by is_some slots
-len-tables [] a = len-empty nat_cmp PlainTable
-len-tables (None ∷ rest) a =
-    let more = len-tables rest (apart_rest None rest a) in
+pub count_tables : (slots : Slots) → IsApart slots → len (tables_of slots) ≡ count_by is_some slots
+count_tables [] a = len-empty nat_cmp PlainTable
+count_tables (None ∷ rest) a =
+    let more = count_tables rest (apart_rest None rest a) in
     let one = sum_by-cons (λ o. cond (is_some o) 1 0) None rest in
     omega arith
-len-tables (Some y ∷ rest) a =
-    let more = len-tables rest (apart_rest (Some y) rest a) in
+count_tables (Some y ∷ rest) a =
+    let more = count_tables rest (apart_rest (Some y) rest a) in
     let one = sum_by-cons (λ o. cond (is_some o) 1 0) (Some y) rest in
     let new : get (tables_of rest) y.number ≡ None = get-unused rest y.number (λ i x h e. let first : zero ≡ suc i = a zero (suc i) y x refl h (sym e) in omega arith) in
     let count = len-cons (tables_of rest) y.number (plain y.table) new in

@@ -71,6 +71,7 @@ impl Heap {
     }
 
     /// The number of tables. It also says what is so of every heap.
+    #[tactic(auto, using(crate::proofs::Slots::count_tables, crate::proofs::Heaps::sound_state))]
     pub fn live(&self) -> usize
         ensures count { result ≡ finite.len (state_of self.now).tables }
         ensures heap { IsHeap self.now.held }
