@@ -9,7 +9,7 @@
 --   meaning e           the meaning of an expression
 -- A form that no statement serves yet has the fault `unbuilt`; `served` tells it before anything
 -- else is looked at.
-use Rattle.std.specs.Prelude.{ℕ, ◌+◌, ◌&&◌, not, cond, Bool, true, false, List, [], ◌∷◌, length, max, map, Option, None, Some, Result, Ok, Err, codes, decimal, slice_get}
+use Rattle.std.specs.Prelude.{ℕ, ℤ, is_some, ◌+◌, ◌&&◌, not, cond, Bool, true, false, List, [], ◌∷◌, length, max, map, Option, None, Some, Result, Ok, Err, codes, decimal, slice_get}
 use Rattle.std.specs.List.{list_all}
 use Rattle.std.specs.Str.{bytes_eq}
 use Rattle.std.specs.FinMap as finite
@@ -122,24 +122,32 @@ arg_name a = a.name
 abbrev pub names_in : List ArgMeaning → ArgNames
 names_in args = map arg_name args
 
--- The argument at a place. A call whose arguments are bound has one for each formal.
-abbrev pub argument_at : List ArgMeaning → Option ℕ → Result Meaning Fault
-argument_at args None = Err unbuilt
-argument_at args (Some i) = elim (slice_get args i) [ None ↦ Err unbuilt | Some a ↦ Ok a.means ]
+-- the argument at a place
+abbrev pub arg_at : List ArgMeaning → Option ℕ → Option ArgMeaning
+arg_at args None = None
+arg_at args (Some i) = slice_get args i
+
+-- a call whose arguments are bound has one for each formal
+abbrev pub there : Option ArgMeaning → Result Meaning Fault
+there None = Err unbuilt
+there (Some a) = Ok a.means
 
 -- the argument that a formal takes, where `before` formals before it are free
 abbrev pub argument : List ArgMeaning → ℕ → Formal → Result Meaning Fault
-argument args before p = argument_at args (place_of (names_in args) before p)
+argument args before p = there (arg_at args (place_of (names_in args) before p))
+
+-- what `copy` of an expression gives
+abbrev pub copy_of : Meaning → Scene → Result Given Fault
+copy_of a w =
+    then_do (a.gives w) (λ g.
+    then_do (wanted_table w.state g.value) (λ t. gives_table (copied t)))
 
 -- a table function, once its arguments are bound
 abbrev pub table_call : Func → List ArgMeaning → Scene → Result Given Fault
 table_call func.DataTable args w = data_table args
 table_call func.Fread args w =
     then_do (argument args 0 formal.File) (λ a. then_do (named_file a.form) (file_table w.files))
-table_call func.Copy args w =
-    then_do (argument args 0 formal.Table) (λ a.
-    then_do (a.gives w) (λ g.
-    then_do (wanted_table w.state g.value) (λ t. gives_table (copied t))))
+table_call func.Copy args w = then_do (argument args 0 formal.Table) (λ a. copy_of a w)
 table_call _ args w = Err unbuilt
 
 -- a command gives no value
@@ -213,13 +221,18 @@ command_named (Some f) args = command_of (kind_of f) f args
 abbrev pub unserved : Meaning
 unserved = record { form = Other; served = false; gives = λ w. Err unbuilt; command = None }
 
+-- what `-` before an integer literal gives
+abbrev pub negative_value : Option ℤ → Result Given Fault
+negative_value None = Err unbuilt
+negative_value (Some n) = gives_value (Cells (one_cell ty.Int (is.Int n)))
+
+abbrev pub negative_form : Option ℤ → Form
+negative_form None = Other
+negative_form (Some n) = Negative n
+
 -- `-` before an integer literal; before anything else it is not served
-abbrev pub negated : Form → Meaning
-negated form =
-    elim (negative form) [
-      | None ↦ unserved
-      | Some n ↦ record { form = Negative n; served = true; gives = λ w. gives_value (Cells (one_cell ty.Int (is.Int n))); command = None }
-    ]
+abbrev pub negated : Option ℤ → Meaning
+negated n = record { form = negative_form n; served = is_some n; gives = λ w. negative_value n; command = None }
 
 abbrev pub expr_step : Expr-F Meaning Meaning ArgMeaning Meaning Meaning → Meaning
 expr_step (Expr-F.Lit cell kind) =
@@ -234,7 +247,7 @@ expr_step Expr-F.Infinite = record { form = InfWord; served = true; gives = λ w
 expr_step (Expr-F.Name name) =
     record { form = BareName name; served = true; gives = λ w. bound_value name (finite.get w.state.names name); command = None }
 expr_step (Expr-F.Paren inner) = record { form = Other; served = inner.served; gives = inner.gives; command = None }
-expr_step (Expr-F.Minus arg) = negated arg.form
+expr_step (Expr-F.Minus arg) = negated (negative arg.form)
 expr_step (Expr-F.Call name args) =
     record { form = Other; served = call_served name args; gives = call_value name (func_of name) args; command = command_named (func_of name) args }
 expr_step _ = unserved

@@ -2,8 +2,8 @@ ghost use Rattle.std.specs.Prelude.{◌≡◌, IfOk, length};
 ghost use Rattle.dt_base.specs.declared.cell.Cell.TheVariants as is;
 ghost use Rattle.dt_base.specs.declared.cell.ColType.TheVariants as ty;
 ghost use Rattle.arg_bind.specs.Answers.{AnswersAs, IsStop};
-ghost use Rattle.session_model.specs.Form.{literal_cell};
-ghost use Rattle.session_model.specs.Meaning.{meaning, negated, literal_vector, unbuilt};
+ghost use Rattle.session_model.specs.Form.{literal_cell, negative};
+ghost use Rattle.session_model.specs.Meaning.{meaning, negative_form, literal_vector, unbuilt};
 ghost use Rattle.session_model.specs.Value.{one_cell};
 ghost use Rattle.stmt_value.specs.Made.{vector_of, IsNumber};
 
@@ -70,7 +70,7 @@ pub fn literal(alloc: Global, kind: ColType, cell: &Cell) -> Result<Column, Allo
 
 /// The negative of an integer literal.
 fn negative_vector(alloc: Global, e: &Expr) -> Result<Column, EvalFail>
-    ensures vector { AnswersAs vector_of (literal_vector (negated (meaning e.now).form).form) result }
+    ensures vector { AnswersAs vector_of (literal_vector (negative_form (negative (meaning e.now).form))) result }
     ensures one { IfOk result (λ c. length c.vector.cells ≡ 1) }
 {
     match negative(e) {

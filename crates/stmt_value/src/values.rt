@@ -3,10 +3,10 @@ ghost use Rattle.std.specs.FinMap as finite;
 ghost use Rattle.arg_bind.specs.Answers.{AnswersAs};
 ghost use Rattle.dt_world.specs.Causes.{Rose};
 ghost use Rattle.func_table.specs.Calls.{func_of, kind_of};
-ghost use Rattle.session_model.specs.Meaning.{meaning, arg_meaning, argument, argument_at, negated, data_table, named_file, table_call, call_of_kind, call_value};
+ghost use Rattle.session_model.specs.Meaning.{meaning, arg_meaning, argument, negative_value, data_table, named_file, copy_of, table_call, call_of_kind, call_value};
 ghost use Rattle.dt_base.specs.Warns.{no_warns};
 ghost use Rattle.dt_table.specs.Plain.{plain};
-ghost use Rattle.session_model.specs.Form.{literal_cell};
+ghost use Rattle.session_model.specs.Form.{literal_cell, negative};
 ghost use Rattle.session_model.specs.Value as model;
 ghost use Rattle.session_model.specs.Value.{bound_value, gives_value, wanted_table, copied, one_cell};
 ghost use Rattle.stmt_value.specs.Answers.{Gives};
@@ -30,28 +30,32 @@ use std::alloc::{AllocError, Global};
 use std::sync::ledger::Ledger;
 use table_heap::{Heap, Look};
 
+/// An argument means what its value means.
+fn is_meant(arg: &Arg)
+    ensures { (arg_meaning arg.now).means ≡ meaning arg.now.value }
+{
+    let _value = &arg.value;
+}
+
 /// The argument that a formal takes, where `before` formals before it are free.
 pub fn argument(alloc: Global, args: &[Arg], before: usize, p: Formal) -> Result<&Expr, EvalFail>
     ensures { AnswersAs (λ e. meaning e.now) (argument (map arg_meaning args.now) before p) result }
 {
     match place(args, before, p) {
-        Some(i) => argument_at(alloc, args, i),
-        None => Err(unbuilt(alloc)),
-    }
-}
-
-fn argument_at(alloc: Global, args: &[Arg], i: usize) -> Result<&Expr, EvalFail>
-    ensures { AnswersAs (λ e. meaning e.now) (argument_at (map arg_meaning args.now) (Some i)) result }
-{
-    match args.get(i) {
-        Some(arg) => Ok(&arg.value),
+        Some(i) => match args.get(i) {
+            Some(arg) => {
+                is_meant(arg);
+                Ok(&arg.value)
+            }
+            None => Err(unbuilt(alloc)),
+        },
         None => Err(unbuilt(alloc)),
     }
 }
 
 /// A value without warnings.
 fn quiet(value: Value<'_>) -> Given<'_>
-    ensures value { result.value ≡ value }
+    ensures value { result.value ≡ value.entry }
     ensures warns { result.warns ≡ no_warns }
 {
     Given {
@@ -69,7 +73,7 @@ fn literal_value<'a>(alloc: Global, kind: ColType, cell: &Cell) -> Result<Given<
 
 /// What `-` before an integer literal gives.
 fn negative_value<'a>(alloc: Global, arg: &Expr) -> Result<Given<'a>, EvalFail>
-    ensures { (w : model.Scene) → AnswersAs plain_given ((negated (meaning arg.now).form).gives w) result }
+    ensures { AnswersAs plain_given (negative_value (negative (meaning arg.now).form)) result }
 {
     match negative(arg) {
         Some(n) => Ok(quiet(Value::Cells(integer(alloc, n)?))),
@@ -107,6 +111,7 @@ pub fn wanted_table<'v>(
 }
 
 /// The same table once more.
+#[tactic(auto, using(crate::proofs::Copies::copied_plain))]
 fn copied<L: Ledger>(
     alloc: Global,
     table: &Table,
@@ -114,6 +119,7 @@ fn copied<L: Ledger>(
 ) -> Result<Table, AllocError>
     ensures { IfOk result (λ t. plain t ≡ copied (plain table.now)) }
 {
+    let _names = table.names();
     table.copy(alloc, steps)
 }
 
@@ -283,8 +289,37 @@ fn copy_value<'a, F: Files, L: Ledger>(
     ensures longs { F.longs files.old ≤ F.longs files.new }
     ensures write_faults { F.write_faults files.new ≡ F.write_faults files.old }
 {
-    let arg = argument(alloc, args, 0, Formal::Table)?;
-    let given = value(alloc, arg, heap, files, steps)?;
+    match place(args, 0, Formal::Table) {
+        Some(i) => match args.get(i) {
+            Some(arg) => {
+                is_meant(arg);
+                copy_of(alloc, &arg.value, heap, files, steps)
+            }
+            None => Err(refusal(alloc, Code::E19, "unbuilt")),
+        },
+        None => Err(refusal(alloc, Code::E19, "unbuilt")),
+    }
+}
+
+/// What `copy` of an expression gives.
+#[cycle(value)]
+fn copy_of<'a, F: Files, L: Ledger>(
+    alloc: Global,
+    e: &Expr,
+    heap: &'a Heap,
+    files: &mut F,
+    steps: &mut Steps<L>,
+) -> Result<Given<'a>, ValueFail>
+    ensures told { IsSome (F.held files.old) → Gives plain_given (copy_of (meaning e.now) (scene (F.held files.old) heap.now)) result }
+    ensures live { IfOk result (λ g. IsValueIn heap.now g.value) }
+    ensures held { F.held files.new ≡ F.held files.old }
+    ensures failed { IsErrOf result ValueFail.ReadFault → Rose (F.read_faults files.old) (F.read_faults files.new) }
+    ensures read_faults { F.read_faults files.old ≤ F.read_faults files.new }
+    ensures misses { F.misses files.old ≤ F.misses files.new }
+    ensures longs { F.longs files.old ≤ F.longs files.new }
+    ensures write_faults { F.write_faults files.new ≡ F.write_faults files.old }
+{
+    let given = value(alloc, e, heap, files, steps)?;
     let table = copied(alloc, wanted_table(alloc, &given.value, heap)?, steps)?;
     Ok(quiet(Value::New(table)))
 }
