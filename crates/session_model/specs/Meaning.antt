@@ -32,7 +32,7 @@ use Rattle.func_table.specs.declared.formal.Formal.{Formal}
 use Rattle.func_table.specs.declared.formal.Formal.TheVariants as formal
 use Rattle.func_table.specs.Calls.{func_of, word_of, kind_of, is_later}
 use Rattle.run_model.specs.Csv.{written_csv}
-use Rattle.dt_model.specs.State.{Bound}
+use Rattle.dt_model.specs.State.{State, Bound}
 use Rattle.session_model.specs.Then.{then_do}
 use Rattle.session_model.specs.Form.{Form, Literal, Negative, NullWord, InfWord, BareName, Other, literal_cell, negative, is_literal, is_bare_name, text_in, name_in}
 use Rattle.session_model.specs.Binding.{ArgNames, bound, place_of, is_free}
@@ -40,12 +40,13 @@ use Rattle.session_model.specs.Value.{Value, Numbered, New, Cells, Null, Given, 
 use Rattle.session_model.specs.Effect.{Effect, Remove, prints, writes, changes, does_nothing}
 
 -- An expression: what it is as written, whether statements serve all of its forms, and what it gives
--- as a value. The call of a command has its name, and what it does as a whole statement.
+-- as a value. The call of a command has what it does as a whole statement, with a name to assign to
+-- or none.
 pub record Meaning : Type 0 where
   pub form : Form
   pub served : Bool
   pub gives : Scene → Result Given Fault
-  pub command : Option (List ℕ × (Scene → Result Effect Fault))
+  pub command : Option (Option (List ℕ) → Scene → Result Effect Fault)
 
 -- an argument
 pub record ArgMeaning : Type 0 where
@@ -105,9 +106,12 @@ abbrev pub named_file : Form → Result (List ℕ) Fault
 named_file form = elim (text_in form) [ None ↦ Err (fault E19 (codes "file")) | Some file ↦ Ok file ]
 
 -- a package's name stands bare, and there is one
+abbrev pub package_named : Option (List ℕ) → Result Effect Fault
+package_named None = Err (fault E19 (codes "package"))
+package_named (Some name) = cond (bytes_eq name (codes "data.table")) (Ok does_nothing) (Err (fault E19 (codes "package")))
+
 abbrev pub known_package : Form → Result Effect Fault
-known_package (BareName name) = cond (bytes_eq name (codes "data.table")) (Ok does_nothing) (Err (fault E19 (codes "package")))
-known_package _ = Err (fault E19 (codes "package"))
+known_package form = package_named (name_in form)
 
 -- a name stands bare
 abbrev pub bare_name : Form → Result (List ℕ) Fault
@@ -178,13 +182,13 @@ not_null Null r = Err (fault E04 (codes "NULL"))
 not_null _ r = r
 
 -- what prints: any value but NULL
-abbrev pub printed_given : Scene → Given → Result Effect Fault
-printed_given w g = not_null g.value (Ok (prints (printed_value w.state g.value) g.warns))
+abbrev pub printed_given : State → Given → Result Effect Fault
+printed_given s g = not_null g.value (Ok (prints (printed_value s g.value) g.warns))
 
 -- the table is written as a file
-abbrev pub written_given : Scene → Given → Form → Result Effect Fault
-written_given w g file =
-    then_do (wanted_table w.state g.value) (λ t.
+abbrev pub written_given : State → Given → Form → Result Effect Fault
+written_given s g file =
+    then_do (wanted_table s g.value) (λ t.
     then_do (named_file file) (λ name. Ok (writes name (written_csv t) g.warns)))
 
 -- a name that is bound is removed
@@ -196,23 +200,32 @@ removed_name name (Some b) = Ok (changes (Remove name))
 abbrev pub command : Func → List ArgMeaning → Scene → Result Effect Fault
 command func.Library args w = then_do (argument args 0 formal.Package) (λ a. known_package a.form)
 command func.Print args w =
-    then_do (argument args 0 formal.Value) (λ a. then_do (a.gives w) (printed_given w))
+    then_do (argument args 0 formal.Value) (λ a. then_do (a.gives w) (printed_given w.state))
 command func.Fwrite args w =
     then_do (argument args 0 formal.Table) (λ a.
     then_do (a.gives w) (λ g.
     then_do (argument args (cond (is_free (names_in args) formal.Table) 1 0) formal.File) (λ b.
-    written_given w g b.form)))
+    written_given w.state g b.form)))
 command func.Rm args w =
     then_do (argument args 0 formal.Name) (λ a.
     then_do (bare_name a.form) (λ name. removed_name name (finite.get w.state.names name)))
 command _ args w = Err unbuilt
 
--- the name and the doing of a command's call
-abbrev pub command_of : Kind → Func → List ArgMeaning → Option (List ℕ × (Scene → Result Effect Fault))
-command_of kind.Table f args = None
-command_of kind.Command f args = Some (word_of f, λ w. then_do (bound f (names_in args)) (λ _. command f args w))
+-- a command's call: the faults of binding come first
+abbrev pub bound_command : Func → List ArgMeaning → Scene → Result Effect Fault
+bound_command f args w = then_do (bound f (names_in args)) (λ _. command f args w)
 
-abbrev pub command_named : Option Func → List ArgMeaning → Option (List ℕ × (Scene → Result Effect Fault))
+-- A command is a whole statement; with a name to assign to it is refused.
+abbrev pub command_step : Func → List ArgMeaning → Option (List ℕ) → Scene → Result Effect Fault
+command_step f args None w = bound_command f args w
+command_step f args (Some name) w = Err (fault E19 (word_of f))
+
+-- what the call of a command does as a whole statement
+abbrev pub command_of : Kind → Func → List ArgMeaning → Option (Option (List ℕ) → Scene → Result Effect Fault)
+command_of kind.Table f args = None
+command_of kind.Command f args = Some (command_step f args)
+
+abbrev pub command_named : Option Func → List ArgMeaning → Option (Option (List ℕ) → Scene → Result Effect Fault)
 command_named None args = None
 command_named (Some f) args = command_of (kind_of f) f args
 
