@@ -9,7 +9,7 @@
 //! The types stand below the definitions, which name them: contracts see them as plain data, so
 //! the trees that code holds are the trees that the definitions speak of. A list inside a tree is
 //! an `Items` and a box a `Boxed`, for the same reason: contracts see the list, and the value.
-//! `dt_script`, which reads a script, names all of them again.
+//! `dt_script`, which reads a script, names those of `tree` again.
 #![tactic(auto)]
 
 mod fault;

@@ -1,0 +1,7 @@
+pub mod FrameViews
+pub mod StepViews
+pub mod Sums
+pub mod FaultPlaces
+pub mod Answered
+pub mod EndViews
+pub mod TokenLoop

@@ -1,0 +1,217 @@
+-- The steps of the machine, frame by frame, and the view of what the code makes of a frame.
+use Rattle.std.proofs.Common.{◌≡◌, ◌≢◌, ℕ, Bool, true, false, cond, List, [], ◌∷◌, ◌++◌, Option, Some, None, option_map, refl, sym, ◌∙◌, ap, subst}
+use Rattle.dt_tree.specs.declared.tree.Expr.{Expr, out-Expr, roll-Expr, roll-out-Expr}
+use Rattle.dt_tree.specs.declared.tree.Expr.TheOpen.{Expr-F}
+use Rattle.dt_tree.specs.declared.tree.Expr.TheOpen as layer
+use Rattle.dt_tree.specs.declared.tree.Expr.TheVariants as code
+use Rattle.dt_tree.specs.declared.tree.Second.{Second}
+use Rattle.dt_tree.specs.declared.tree.Arg.{Arg}
+use Rattle.dt_tree.specs.declared.tree.Tail.{Tail}
+use Rattle.dt_tree.specs.declared.tree.Bracket.{Bracket, out-Bracket, roll-out-Bracket}
+use Rattle.dt_tree.specs.declared.tree.Stmt as stmt_type
+use Rattle.run_model.specs.GrammarTrees.{Word, Tree, Var, Given, NoArgs, MoreArgs, Brackets, NoBrackets, MoreBrackets}
+use Rattle.run_model.specs.Grammar.{Filled, Nothing, UpToI, UpToJ, UpToBy, with_bracket, as_j, is_j, with_name}
+use Rattle.run_model.specs.TreeView.{tree_of, bracket_of, first_of, second_of, args_of, stmt_of, stmts_of}
+use Rattle.dt_grammar.specs.Machine.{Frame, Front, Left, InParen, InCall, InItem, InNamed, InAssign, InStmt, Want, Have, head_of, shut_none, shut, break_none, assign, name_top, arrow_top, opens, naming}
+use Rattle.dt_grammar.proofs.Trees.{tree_of-Lit, tree_of-Null, tree_of-Infinite, tree_of-Name, tree_of-Paren, tree_of-Minus, tree_of-Not, tree_of-Chain, tree_of-Call, tree_of-Query, tree_of-Formula, item_of_second-Value, item_of_second-Assign, item_of_second-AssignAll, bracket_of-roll, brackets_of-push}
+use Rattle.dt_script.specs.Steps.{bracket_tree, placed, empty_call, in_shut, empty_line, in_assign, in_naming, in_arrow}
+
+-- brackets
+pub with_bracket_is : (bs : Brackets) (f : Filled) → with_bracket bs f ≡ (let b = bracket_tree f in MoreBrackets bs b.first b.second b.third b.args)
+with_bracket_is bs Nothing = refl
+with_bracket_is bs (UpToI i) = refl
+with_bracket_is bs (UpToJ i j) = refl
+with_bracket_is bs (UpToBy i j by args) = refl
+
+pub ruleset brackets = (bracket_of-roll)
+
+pub bracket_of_is : (b : Bracket) → bracket_of b ≡ record { first = first_of (out-Bracket b).first; second = second_of (out-Bracket b).second; third = first_of (out-Bracket b).third; args = args_of (out-Bracket b).args }
+bracket_of_is b = let o = out-Bracket b in ap bracket_of (sym (roll-out-Bracket b)) ∙ bracket_of-roll o.first o.second o.third o.args
+
+pub with_name_is : (f : Filled) (x : Word) (t : Tree) → with_name f x t ≡ (let b = bracket_tree f in UpToBy b.first b.second b.third (MoreArgs b.args (Some x) t))
+with_name_is Nothing x t = refl
+with_name_is (UpToI i) x t = refl
+with_name_is (UpToJ i j) x t = refl
+with_name_is (UpToBy i j by args) x t = refl
+
+pub ruleset names = (bracket_of_is, with_name_is)
+
+pub ruleset queries = (brackets_of-push, with_bracket_is)
+
+-- items
+pub first_of-placed : (o : Option Expr) → placed false o ≡ first_of o
+first_of-placed None = refl
+first_of-placed (Some t) = refl
+
+pub ruleset items = (first_of-placed)
+
+pub ruleset seconds = (item_of_second-Value, item_of_second-Assign, item_of_second-AssignAll)
+
+-- what is no call, no query and no name in the code is none in the view
+as_j_other_layer : (l : Expr-F Expr Second Arg Bracket Tail) → ((x : Word) (args : List Arg) → roll-Expr l ≢ code.Call x args) → as_j (tree_of (roll-Expr l)) ≡ Given (tree_of (roll-Expr l))
+as_j_other_layer (layer.Lit c k) h = subst (λ z. as_j (z) ≡ Given (z)) (sym (ap tree_of (code.rolls-Lit c k) ∙ tree_of-Lit c k)) refl
+as_j_other_layer layer.Null h = subst (λ z. as_j (z) ≡ Given (z)) (sym (ap tree_of (code.rolls-Null) ∙ tree_of-Null)) refl
+as_j_other_layer layer.Infinite h = subst (λ z. as_j (z) ≡ Given (z)) (sym (ap tree_of (code.rolls-Infinite) ∙ tree_of-Infinite)) refl
+as_j_other_layer (layer.Name x) h = subst (λ z. as_j (z) ≡ Given (z)) (sym (ap tree_of (code.rolls-Name x) ∙ tree_of-Name x)) refl
+as_j_other_layer (layer.Paren t) h = subst (λ z. as_j (z) ≡ Given (z)) (sym (ap tree_of (code.rolls-Paren t) ∙ tree_of-Paren t)) refl
+as_j_other_layer (layer.Minus t) h = subst (λ z. as_j (z) ≡ Given (z)) (sym (ap tree_of (code.rolls-Minus t) ∙ tree_of-Minus t)) refl
+as_j_other_layer (layer.Not t) h = subst (λ z. as_j (z) ≡ Given (z)) (sym (ap tree_of (code.rolls-Not t) ∙ tree_of-Not t)) refl
+as_j_other_layer (layer.Chain t rest) h = subst (λ z. as_j (z) ≡ Given (z)) (sym (ap tree_of (code.rolls-Chain t rest) ∙ tree_of-Chain t rest)) refl
+as_j_other_layer (layer.Call x args) h = absurd (h x args (code.rolls-Call x args))
+as_j_other_layer (layer.Query t bs) h = subst (λ z. as_j (z) ≡ Given (z)) (sym (ap tree_of (code.rolls-Query t bs) ∙ tree_of-Query t bs)) refl
+as_j_other_layer (layer.Formula xs ys) h = subst (λ z. as_j (z) ≡ Given (z)) (sym (ap tree_of (code.rolls-Formula xs ys) ∙ tree_of-Formula xs ys)) refl
+
+pub as_j_other : (t : Expr) → ((x : Word) (args : List Arg) → t ≢ code.Call x args) → as_j (tree_of t) ≡ Given (tree_of t)
+as_j_other t h = subst (λ s. ((x : Word) (args : List Arg) → s ≢ code.Call x args) → as_j (tree_of s) ≡ Given (tree_of s)) (roll-out-Expr t) (as_j_other_layer (out-Expr t)) h
+
+head_of_other_layer : (l : Expr-F Expr Second Arg Bracket Tail) → ((u : Expr) (bs : List Bracket) → roll-Expr l ≢ code.Query u bs) → head_of (tree_of (roll-Expr l)) ≡ record { tree = tree_of (roll-Expr l); brackets = NoBrackets }
+head_of_other_layer (layer.Lit c k) h = subst (λ z. head_of (z) ≡ record { tree = z; brackets = NoBrackets }) (sym (ap tree_of (code.rolls-Lit c k) ∙ tree_of-Lit c k)) refl
+head_of_other_layer layer.Null h = subst (λ z. head_of (z) ≡ record { tree = z; brackets = NoBrackets }) (sym (ap tree_of (code.rolls-Null) ∙ tree_of-Null)) refl
+head_of_other_layer layer.Infinite h = subst (λ z. head_of (z) ≡ record { tree = z; brackets = NoBrackets }) (sym (ap tree_of (code.rolls-Infinite) ∙ tree_of-Infinite)) refl
+head_of_other_layer (layer.Name x) h = subst (λ z. head_of (z) ≡ record { tree = z; brackets = NoBrackets }) (sym (ap tree_of (code.rolls-Name x) ∙ tree_of-Name x)) refl
+head_of_other_layer (layer.Paren t) h = subst (λ z. head_of (z) ≡ record { tree = z; brackets = NoBrackets }) (sym (ap tree_of (code.rolls-Paren t) ∙ tree_of-Paren t)) refl
+head_of_other_layer (layer.Minus t) h = subst (λ z. head_of (z) ≡ record { tree = z; brackets = NoBrackets }) (sym (ap tree_of (code.rolls-Minus t) ∙ tree_of-Minus t)) refl
+head_of_other_layer (layer.Not t) h = subst (λ z. head_of (z) ≡ record { tree = z; brackets = NoBrackets }) (sym (ap tree_of (code.rolls-Not t) ∙ tree_of-Not t)) refl
+head_of_other_layer (layer.Chain t rest) h = subst (λ z. head_of (z) ≡ record { tree = z; brackets = NoBrackets }) (sym (ap tree_of (code.rolls-Chain t rest) ∙ tree_of-Chain t rest)) refl
+head_of_other_layer (layer.Call x args) h = subst (λ z. head_of (z) ≡ record { tree = z; brackets = NoBrackets }) (sym (ap tree_of (code.rolls-Call x args) ∙ tree_of-Call x args)) refl
+head_of_other_layer (layer.Query t bs) h = absurd (h t bs (code.rolls-Query t bs))
+head_of_other_layer (layer.Formula xs ys) h = subst (λ z. head_of (z) ≡ record { tree = z; brackets = NoBrackets }) (sym (ap tree_of (code.rolls-Formula xs ys) ∙ tree_of-Formula xs ys)) refl
+
+pub head_of_other : (t : Expr) → ((u : Expr) (bs : List Bracket) → t ≢ code.Query u bs) → head_of (tree_of t) ≡ record { tree = tree_of t; brackets = NoBrackets }
+head_of_other t h = subst (λ s. ((u : Expr) (bs : List Bracket) → s ≢ code.Query u bs) → head_of (tree_of s) ≡ record { tree = tree_of s; brackets = NoBrackets }) (roll-out-Expr t) (head_of_other_layer (out-Expr t)) h
+
+opens_other_layer : (l : Expr-F Expr Second Arg Bracket Tail) → ((x : Word) → roll-Expr l ≢ code.Name x) → ((frames : List Frame) → opens frames (tree_of (roll-Expr l)) ≡ None)
+opens_other_layer (layer.Lit c k) h = subst (λ z. ((frames : List Frame) → opens frames (z) ≡ None)) (sym (ap tree_of (code.rolls-Lit c k) ∙ tree_of-Lit c k)) (λ frames. refl)
+opens_other_layer layer.Null h = subst (λ z. ((frames : List Frame) → opens frames (z) ≡ None)) (sym (ap tree_of (code.rolls-Null) ∙ tree_of-Null)) (λ frames. refl)
+opens_other_layer layer.Infinite h = subst (λ z. ((frames : List Frame) → opens frames (z) ≡ None)) (sym (ap tree_of (code.rolls-Infinite) ∙ tree_of-Infinite)) (λ frames. refl)
+opens_other_layer (layer.Name x) h = absurd (h x (code.rolls-Name x))
+opens_other_layer (layer.Paren t) h = subst (λ z. ((frames : List Frame) → opens frames (z) ≡ None)) (sym (ap tree_of (code.rolls-Paren t) ∙ tree_of-Paren t)) (λ frames. refl)
+opens_other_layer (layer.Minus t) h = subst (λ z. ((frames : List Frame) → opens frames (z) ≡ None)) (sym (ap tree_of (code.rolls-Minus t) ∙ tree_of-Minus t)) (λ frames. refl)
+opens_other_layer (layer.Not t) h = subst (λ z. ((frames : List Frame) → opens frames (z) ≡ None)) (sym (ap tree_of (code.rolls-Not t) ∙ tree_of-Not t)) (λ frames. refl)
+opens_other_layer (layer.Chain t rest) h = subst (λ z. ((frames : List Frame) → opens frames (z) ≡ None)) (sym (ap tree_of (code.rolls-Chain t rest) ∙ tree_of-Chain t rest)) (λ frames. refl)
+opens_other_layer (layer.Call x args) h = subst (λ z. ((frames : List Frame) → opens frames (z) ≡ None)) (sym (ap tree_of (code.rolls-Call x args) ∙ tree_of-Call x args)) (λ frames. refl)
+opens_other_layer (layer.Query t bs) h = subst (λ z. ((frames : List Frame) → opens frames (z) ≡ None)) (sym (ap tree_of (code.rolls-Query t bs) ∙ tree_of-Query t bs)) (λ frames. refl)
+opens_other_layer (layer.Formula xs ys) h = subst (λ z. ((frames : List Frame) → opens frames (z) ≡ None)) (sym (ap tree_of (code.rolls-Formula xs ys) ∙ tree_of-Formula xs ys)) (λ frames. refl)
+
+pub opens_other : (t : Expr) → ((x : Word) → t ≢ code.Name x) → ((frames : List Frame) → opens frames (tree_of t) ≡ None)
+opens_other t h = subst (λ s. ((x : Word) → s ≢ code.Name x) → ((frames : List Frame) → opens frames (tree_of s) ≡ None)) (roll-out-Expr t) (opens_other_layer (out-Expr t)) h
+
+naming_other_layer : (l : Expr-F Expr Second Arg Bracket Tail) → ((x : Word) → roll-Expr l ≢ code.Name x) → ((frames : List Frame) → naming frames (tree_of (roll-Expr l)) ≡ None)
+naming_other_layer (layer.Lit c k) h = subst (λ z. ((frames : List Frame) → naming frames (z) ≡ None)) (sym (ap tree_of (code.rolls-Lit c k) ∙ tree_of-Lit c k)) (λ frames. refl)
+naming_other_layer layer.Null h = subst (λ z. ((frames : List Frame) → naming frames (z) ≡ None)) (sym (ap tree_of (code.rolls-Null) ∙ tree_of-Null)) (λ frames. refl)
+naming_other_layer layer.Infinite h = subst (λ z. ((frames : List Frame) → naming frames (z) ≡ None)) (sym (ap tree_of (code.rolls-Infinite) ∙ tree_of-Infinite)) (λ frames. refl)
+naming_other_layer (layer.Name x) h = absurd (h x (code.rolls-Name x))
+naming_other_layer (layer.Paren t) h = subst (λ z. ((frames : List Frame) → naming frames (z) ≡ None)) (sym (ap tree_of (code.rolls-Paren t) ∙ tree_of-Paren t)) (λ frames. refl)
+naming_other_layer (layer.Minus t) h = subst (λ z. ((frames : List Frame) → naming frames (z) ≡ None)) (sym (ap tree_of (code.rolls-Minus t) ∙ tree_of-Minus t)) (λ frames. refl)
+naming_other_layer (layer.Not t) h = subst (λ z. ((frames : List Frame) → naming frames (z) ≡ None)) (sym (ap tree_of (code.rolls-Not t) ∙ tree_of-Not t)) (λ frames. refl)
+naming_other_layer (layer.Chain t rest) h = subst (λ z. ((frames : List Frame) → naming frames (z) ≡ None)) (sym (ap tree_of (code.rolls-Chain t rest) ∙ tree_of-Chain t rest)) (λ frames. refl)
+naming_other_layer (layer.Call x args) h = subst (λ z. ((frames : List Frame) → naming frames (z) ≡ None)) (sym (ap tree_of (code.rolls-Call x args) ∙ tree_of-Call x args)) (λ frames. refl)
+naming_other_layer (layer.Query t bs) h = subst (λ z. ((frames : List Frame) → naming frames (z) ≡ None)) (sym (ap tree_of (code.rolls-Query t bs) ∙ tree_of-Query t bs)) (λ frames. refl)
+naming_other_layer (layer.Formula xs ys) h = subst (λ z. ((frames : List Frame) → naming frames (z) ≡ None)) (sym (ap tree_of (code.rolls-Formula xs ys) ∙ tree_of-Formula xs ys)) (λ frames. refl)
+
+pub naming_other : (t : Expr) → ((x : Word) → t ≢ code.Name x) → ((frames : List Frame) → naming frames (tree_of t) ≡ None)
+naming_other t h = subst (λ s. ((x : Word) → s ≢ code.Name x) → ((frames : List Frame) → naming frames (tree_of s) ≡ None)) (roll-out-Expr t) (naming_other_layer (out-Expr t)) h
+
+abbrev is_var : Tree → Bool
+is_var (Var x) = true
+is_var _ = false
+
+arrow_none : (frames : List Frame) (t : Tree) → is_var t ≡ false → arrow_top frames t ≡ None
+arrow_none (InStmt ss n None ∷ rest) (Var x) e = cc
+arrow_none _ _ e = refl
+
+arrow_other_layer : (l : Expr-F Expr Second Arg Bracket Tail) → ((x : Word) → roll-Expr l ≢ code.Name x) → ((frames : List Frame) → arrow_top frames (tree_of (roll-Expr l)) ≡ None)
+arrow_other_layer (layer.Lit c k) h = subst (λ z. ((frames : List Frame) → arrow_top frames (z) ≡ None)) (sym (ap tree_of (code.rolls-Lit c k) ∙ tree_of-Lit c k)) (λ frames. arrow_none frames _ refl)
+arrow_other_layer layer.Null h = subst (λ z. ((frames : List Frame) → arrow_top frames (z) ≡ None)) (sym (ap tree_of (code.rolls-Null) ∙ tree_of-Null)) (λ frames. arrow_none frames _ refl)
+arrow_other_layer layer.Infinite h = subst (λ z. ((frames : List Frame) → arrow_top frames (z) ≡ None)) (sym (ap tree_of (code.rolls-Infinite) ∙ tree_of-Infinite)) (λ frames. arrow_none frames _ refl)
+arrow_other_layer (layer.Name x) h = absurd (h x (code.rolls-Name x))
+arrow_other_layer (layer.Paren t) h = subst (λ z. ((frames : List Frame) → arrow_top frames (z) ≡ None)) (sym (ap tree_of (code.rolls-Paren t) ∙ tree_of-Paren t)) (λ frames. arrow_none frames _ refl)
+arrow_other_layer (layer.Minus t) h = subst (λ z. ((frames : List Frame) → arrow_top frames (z) ≡ None)) (sym (ap tree_of (code.rolls-Minus t) ∙ tree_of-Minus t)) (λ frames. arrow_none frames _ refl)
+arrow_other_layer (layer.Not t) h = subst (λ z. ((frames : List Frame) → arrow_top frames (z) ≡ None)) (sym (ap tree_of (code.rolls-Not t) ∙ tree_of-Not t)) (λ frames. arrow_none frames _ refl)
+arrow_other_layer (layer.Chain t rest) h = subst (λ z. ((frames : List Frame) → arrow_top frames (z) ≡ None)) (sym (ap tree_of (code.rolls-Chain t rest) ∙ tree_of-Chain t rest)) (λ frames. arrow_none frames _ refl)
+arrow_other_layer (layer.Call x args) h = subst (λ z. ((frames : List Frame) → arrow_top frames (z) ≡ None)) (sym (ap tree_of (code.rolls-Call x args) ∙ tree_of-Call x args)) (λ frames. arrow_none frames _ refl)
+arrow_other_layer (layer.Query t bs) h = subst (λ z. ((frames : List Frame) → arrow_top frames (z) ≡ None)) (sym (ap tree_of (code.rolls-Query t bs) ∙ tree_of-Query t bs)) (λ frames. arrow_none frames _ refl)
+arrow_other_layer (layer.Formula xs ys) h = subst (λ z. ((frames : List Frame) → arrow_top frames (z) ≡ None)) (sym (ap tree_of (code.rolls-Formula xs ys) ∙ tree_of-Formula xs ys)) (λ frames. arrow_none frames _ refl)
+
+pub arrow_other : (t : Expr) → ((x : Word) → t ≢ code.Name x) → ((frames : List Frame) → arrow_top frames (tree_of t) ≡ None)
+arrow_other t h = subst (λ s. ((x : Word) → s ≢ code.Name x) → ((frames : List Frame) → arrow_top frames (tree_of s) ≡ None)) (roll-out-Expr t) (arrow_other_layer (out-Expr t)) h
+
+-- frames
+pub shut_none-frame : (f : Frame) (rest : List Frame) → shut_none (f ∷ rest) ≡ option_map (λ t. Have rest t) (empty_call f)
+shut_none-frame (Front p) rest = refl
+shut_none-frame (Left l tails op) rest = refl
+shut_none-frame InParen rest = refl
+shut_none-frame (InCall g NoArgs None) rest = refl
+shut_none-frame (InCall g NoArgs (Some y)) rest = refl
+shut_none-frame (InCall g (MoreArgs before w u) None) rest = refl
+shut_none-frame (InCall g (MoreArgs before w u) (Some y)) rest = refl
+shut_none-frame (InItem h f) rest = refl
+shut_none-frame (InNamed h f x) rest = refl
+shut_none-frame (InAssign h f l) rest = refl
+shut_none-frame (InStmt ss n o) rest = refl
+
+pub shut-frame : (f : Frame) (rest : List Frame) (t : Tree) → shut (f ∷ rest, t) ≡ option_map (λ u. Have rest u) (in_shut f t)
+shut-frame (Front p) rest t = refl
+shut-frame (Left l tails op) rest t = refl
+shut-frame InParen rest t = refl
+shut-frame (InCall x args o) rest t = refl
+shut-frame (InItem h f) rest t = refl
+shut-frame (InNamed h f x) rest t = refl
+shut-frame (InAssign h f l) rest t = refl
+shut-frame (InStmt ss n o) rest t = refl
+
+pub break_none-frame : (m : ℕ) (f : Frame) (rest : List Frame) → break_none m (f ∷ rest) ≡ option_map (λ g. Want (g ∷ rest)) (empty_line m f)
+break_none-frame m (Front p) rest = refl
+break_none-frame m (Left l tails op) rest = refl
+break_none-frame m InParen rest = refl
+break_none-frame m (InCall x args o) rest = refl
+break_none-frame m (InItem h f) rest = refl
+break_none-frame m (InNamed h f x) rest = refl
+break_none-frame m (InAssign h f l) rest = refl
+break_none-frame m (InStmt ss n None) rest = refl
+break_none-frame m (InStmt ss n (Some y)) rest = refl
+
+assign_test : (b : Bool) (f : Frame) (rest : List Frame) → cond b (Some (Want (f ∷ rest))) None ≡ option_map (λ g. Want (g ∷ rest)) (cond b (Some f) None)
+assign_test true f rest = refl
+assign_test false f rest = refl
+
+pub assign-frame : (f : Frame) (rest : List Frame) (t : Tree) → assign (f ∷ rest, t) ≡ option_map (λ g. Want (g ∷ rest)) (in_assign f t)
+assign-frame (Front p) rest t = refl
+assign-frame (Left l tails op) rest t = refl
+assign-frame InParen rest t = refl
+assign-frame (InCall x args o) rest t = refl
+assign-frame (InItem h f) rest t = assign_test (is_j f) (InAssign h f t) rest
+assign-frame (InNamed h f x) rest t = refl
+assign-frame (InAssign h f l) rest t = refl
+assign-frame (InStmt ss n o) rest t = refl
+
+pub naming-frame : (f : Frame) (rest : List Frame) (x : Word) → name_top (f ∷ rest) x ≡ option_map (λ g. Want (g ∷ rest)) (in_naming f x)
+naming-frame (Front p) rest x = refl
+naming-frame (Left l tails op) rest x = refl
+naming-frame InParen rest x = refl
+naming-frame (InCall g args None) rest x = refl
+naming-frame (InCall g args (Some y)) rest x = refl
+naming-frame (InItem h f) rest x = refl
+naming-frame (InNamed h f y) rest x = refl
+naming-frame (InAssign h f l) rest x = refl
+naming-frame (InStmt ss n None) rest x = refl
+naming-frame (InStmt ss n (Some y)) rest x = refl
+
+pub arrow-frame : (f : Frame) (rest : List Frame) (x : Word) → arrow_top (f ∷ rest) (Var x) ≡ option_map (λ g. Want (g ∷ rest)) (in_arrow f x)
+arrow-frame (Front p) rest x = refl
+arrow-frame (Left l tails op) rest x = refl
+arrow-frame InParen rest x = refl
+arrow-frame (InCall g args o) rest x = refl
+arrow-frame (InItem h f) rest x = refl
+arrow-frame (InNamed h f y) rest x = refl
+arrow-frame (InAssign h f l) rest x = refl
+arrow-frame (InStmt ss n None) rest x = refl
+arrow-frame (InStmt ss n (Some y)) rest x = refl
+
+pub ruleset steps = (shut_none-frame, shut-frame, break_none-frame, assign-frame, naming-frame, arrow-frame)
+
+pub stmts_of-push : (ss : List stmt_type.Stmt) (s : stmt_type.Stmt) → stmts_of (ss ++ s ∷ []) ≡ stmts_of ss ++ stmt_of s ∷ []
+stmts_of-push [] s = refl
+stmts_of-push (x ∷ ss) s = ap (λ xs. stmt_of x ∷ xs) (stmts_of-push ss s)
+
+pub ruleset statements = (stmts_of-push)

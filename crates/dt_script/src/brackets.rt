@@ -1,0 +1,239 @@
+ghost use Rattle.std.specs.Prelude.{◌≡◌, ℕ, true, IfOk, Some, option_map};
+ghost use Rattle.run_model.specs.Grammar as grammar;
+ghost use Rattle.run_model.specs.GrammarTrees.{MoreArgs};
+ghost use Rattle.dt_grammar.specs.Machine as model;
+ghost use Rattle.run_model.specs.TreeView.{tree_of, args_of, bracket_of, item_of_second, second_of};
+ghost use Rattle.dt_script.specs.Frames.{head_tree, filled_of, frame_of, frames_of, state_of};
+ghost use Rattle.dt_script.specs.Steps.{bracket_tree, placed, came_of};
+
+use crate::frames::{Filled, Frame, Head, State};
+use dt_base::Text;
+use dt_tree::{Arg, Bracket, Expr, Second};
+use sqlite_items::{Boxed, Items};
+use std::alloc::{AllocError, Global};
+
+/// Whether the name is `:=`.
+pub fn is_assign(name: &Text) -> bool
+    ensures { result ≡ grammar.is_assign name.now }
+{
+    name.as_str() == ":="
+}
+
+/// One more argument.
+#[tactic(auto, using(dt_grammar::proofs::Trees::trees))]
+pub fn with_arg(
+    mut args: Items<Arg>,
+    name: Option<Text>,
+    value: Expr,
+) -> Result<Items<Arg>, AllocError>
+    ensures { IfOk result (λ all. args_of all ≡ MoreArgs (args_of args) name (tree_of value)) }
+{
+    args.push(Arg { name, value })?;
+    Ok(args)
+}
+
+/// What stands before a bracket.
+#[tactic(auto, using(dt_grammar::proofs::Trees::trees))]
+pub fn head_of(alloc: Global, operand: Expr) -> Head
+    ensures { head_tree result ≡ model.head_of (tree_of operand) }
+{
+    match operand {
+        Expr::Query { head, brackets } => Head {
+            tree: head.into_inner(),
+            brackets,
+        },
+        operand => Head {
+            tree: operand,
+            brackets: Items::new(alloc),
+        },
+    }
+}
+
+/// The bracket with these items.
+#[tactic(auto, using(crate::proofs::StepViews::brackets))]
+pub fn bracket(alloc: Global, filled: Filled) -> Bracket
+    ensures { bracket_of result ≡ bracket_tree (filled_of filled) }
+{
+    match filled {
+        Filled::Nothing => Bracket {
+            first: None,
+            second: None,
+            third: None,
+            args: Items::new(alloc),
+        },
+        Filled::UpToI { first } => Bracket {
+            first,
+            second: None,
+            third: None,
+            args: Items::new(alloc),
+        },
+        Filled::UpToJ { first, second } => Bracket {
+            first,
+            second,
+            third: None,
+            args: Items::new(alloc),
+        },
+        Filled::UpToBy {
+            first,
+            second,
+            third,
+            args,
+        } => Bracket {
+            first,
+            second,
+            third,
+            args,
+        },
+    }
+}
+
+/// The query with one more bracket.
+#[tactic(auto, using(dt_grammar::proofs::Trees::trees, crate::proofs::StepViews::queries))]
+pub fn query(alloc: Global, head: Head, filled: Filled) -> Result<Expr, AllocError>
+    ensures { IfOk result (λ t. tree_of t ≡ model.query (head_tree head) (filled_of filled)) }
+{
+    let Head { tree, mut brackets } = head;
+    brackets.push(bracket(alloc, filled))?;
+    Ok(Expr::Query {
+        head: Boxed::new(alloc, tree)?,
+        brackets,
+    })
+}
+
+/// An expression as j: the call of `:=` is an assignment there.
+#[tactic(auto, using(dt_grammar::proofs::Trees::trees, crate::proofs::StepViews::seconds))]
+pub fn as_j(operand: Expr) -> Second
+    ensures { item_of_second result ≡ grammar.as_j (tree_of operand) }
+{
+    match operand {
+        Expr::Call { name, args } => {
+            if is_assign(&name) {
+                Second::AssignAll { args }
+            } else {
+                Second::Value(Expr::Call { name, args })
+            }
+        }
+        operand => Second::Value(operand),
+    }
+}
+
+/// What stands at j, or nothing.
+pub fn second(item: Option<Expr>) -> Option<Second>
+    ensures { second_of result ≡ placed true item }
+{
+    match item {
+        Some(operand) => Some(as_j(operand)),
+        None => None,
+    }
+}
+
+/// One more item without a name, which may be empty.
+#[tactic(auto, using(crate::proofs::StepViews::items))]
+pub fn with_item(alloc: Global, filled: Filled, item: Option<Expr>) -> Filled
+    ensures { filled_of result ≡ grammar.with_item (filled_of filled) (placed (grammar.is_j (filled_of filled)) item) }
+{
+    match filled {
+        Filled::Nothing => Filled::UpToI { first: item },
+        Filled::UpToI { first } => Filled::UpToJ {
+            first,
+            second: second(item),
+        },
+        Filled::UpToJ { first, second } => Filled::UpToBy {
+            first,
+            second,
+            third: item,
+            args: Items::new(alloc),
+        },
+        Filled::UpToBy {
+            first,
+            second,
+            third,
+            args,
+        } => Filled::UpToBy {
+            first,
+            second,
+            third,
+            args,
+        },
+    }
+}
+
+/// One more item with a name.
+#[tactic(auto, using(crate::proofs::StepViews::names))]
+pub fn with_name(
+    alloc: Global,
+    filled: Filled,
+    name: Text,
+    value: Expr,
+) -> Result<Filled, AllocError>
+    ensures { IfOk result (λ f. filled_of f ≡ grammar.with_name (filled_of filled) name (tree_of value)) }
+{
+    let Bracket {
+        first,
+        second,
+        third,
+        args,
+    } = bracket(alloc, filled);
+    Ok(Filled::UpToBy {
+        first,
+        second,
+        third,
+        args: with_arg(args, Some(name), value)?,
+    })
+}
+
+/// An item that ends with this expression: what stands before its bracket, and what the items fill
+/// with it.
+#[tactic(auto, using(crate::proofs::StepViews::seconds))]
+pub fn item(
+    alloc: Global,
+    frame: Frame,
+    operand: Expr,
+) -> Result<Option<(Head, Filled)>, AllocError>
+    ensures { IfOk result (λ came. option_map came_of came ≡ model.item (frame_of frame) (tree_of operand)) }
+{
+    match frame {
+        Frame::InItem { head, filled } => Ok(Some((head, with_item(alloc, filled, Some(operand))))),
+        Frame::InNamed { head, filled, name } => Ok(Some((
+            head,
+            with_name(alloc, filled, name, operand)?,
+        ))),
+        Frame::InAssign { head, first, left } => Ok(Some((
+            head,
+            Filled::UpToJ {
+                first,
+                second: Some(Second::Assign {
+                    left,
+                    right: operand,
+                }),
+            },
+        ))),
+        _ => Ok(None),
+    }
+}
+
+/// Whether an item without a name may come.
+pub fn takes_unnamed(filled: &Filled) -> bool
+    ensures { result ≡ grammar.takes_unnamed (filled_of filled.now) }
+{
+    match filled {
+        Filled::UpToBy { .. } => false,
+        _ => true,
+    }
+}
+
+/// The next item of a bracket.
+#[tactic(auto, using(crate::proofs::FrameViews::frames))]
+pub fn next_item(head: Head, filled: Filled, mut frames: Vec<Frame>) -> Result<State, AllocError>
+    ensures { IfOk result (λ next. state_of next ≡ model.next_item (head_tree head) (filled_of filled) (frames_of frames.items)) }
+{
+    if !takes_unnamed(&filled) {
+        return Ok(State::NeedName {
+            head,
+            filled,
+            frames,
+        });
+    }
+    frames.push(Frame::InItem { head, filled })?;
+    Ok(State::Want { frames })
+}

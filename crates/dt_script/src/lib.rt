@@ -1,0 +1,31 @@
+//! Reading a script: from its bytes to its trees.
+//!
+//! - `parse`: the script that bytes are, or its first fault, `ParseFail`.
+//! - `Script`, `Stmt`, `Expr` and the other trees, which `dt_tree` declares and this crate names
+//!   again.
+//!
+//! It stands on `dt_tokens` for the tokens, on `dt_grammar` for the lemmas of the grammar, and on
+//! `dt_misplaced` for the assignments in wrong places. The grammar takes the tokens one by one,
+//! with a stack of what has been begun, and never goes back.
+//!
+//! It promises that a script is given exactly where the bytes spell it, and the fault exactly where
+//! it is the first. Time is linear in the bytes and the stack grows with the nesting alone, which
+//! no clause says and `script_table` tries.
+#![tactic(auto)]
+
+mod brackets;
+mod bytes;
+mod endings;
+mod frames;
+mod having;
+mod levels;
+mod naming;
+mod operators;
+mod place;
+mod reading;
+mod step;
+mod symbol;
+mod wanting;
+
+pub use bytes::{ParseFail, parse};
+pub use dt_tree::{Arg, BinOp, Bracket, Expr, Script, Second, Stmt, Tail};

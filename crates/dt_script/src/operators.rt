@@ -1,0 +1,185 @@
+ghost use Rattle.std.specs.Prelude.{◌≡◌, ℕ, IfOk, option_map, ◌==◌};
+ghost use Rattle.run_model.specs.Grammar as grammar;
+ghost use Rattle.dt_grammar.specs.Machine as model;
+ghost use Rattle.run_model.specs.TreeView.{tree_of, tails_of};
+ghost use Rattle.dt_script.specs.Frames.{prefix_of, frame_of, frames_of, state_of, closed_of, binds, ended, frame_demand};
+
+use crate::frames::{Frame, Prefix, State};
+use crate::levels::{is_single, level, prefix_level};
+use dt_tree::{BinOp, Expr, Tail};
+use sqlite_items::{Boxed, Items};
+use std::alloc::{AllocError, Global};
+
+/// Whether the frame is an operator that binds at least as tightly as `least`.
+pub fn binds(frame: &Frame, least: u8) -> bool
+    ensures { result ≡ binds least (frame_of frame.now) }
+{
+    match frame {
+        Frame::Front(prefix) => least <= prefix_level(*prefix),
+        Frame::Left { op, .. } => least <= level(*op),
+        _ => false,
+    }
+}
+
+/// The operator with its last operand.
+#[tactic(auto, using(dt_grammar::proofs::Trees::trees))]
+pub fn ended(alloc: Global, frame: Frame, operand: Expr) -> Result<Expr, AllocError>
+    ensures { IfOk result (λ t. tree_of t ≡ ended (frame_of frame) (tree_of operand)) }
+{
+    match frame {
+        Frame::Front(Prefix::Not) => Ok(Expr::Not {
+            arg: Boxed::new(alloc, operand)?,
+        }),
+        Frame::Front(Prefix::Negate) => Ok(Expr::Minus {
+            arg: Boxed::new(alloc, operand)?,
+        }),
+        Frame::Left {
+            first,
+            mut rest,
+            op,
+        } => {
+            rest.push(Tail { op, arg: operand })?;
+            Ok(Expr::Chain {
+                first: Boxed::new(alloc, first)?,
+                rest,
+            })
+        }
+        _ => Ok(operand),
+    }
+}
+
+/// Ends the operators that bind at least as tightly as `least`: the frames that are left, and the
+/// expression that has come in the innermost of them.
+#[tactic(auto, using(crate::proofs::FrameViews::closing))]
+pub fn close(
+    alloc: Global,
+    mut frames: Vec<Frame>,
+    mut operand: Expr,
+    least: u8,
+) -> Result<(Vec<Frame>, Expr), AllocError>
+    ensures { IfOk result (λ r. closed_of r.0.items r.1 ≡ model.close least (frames_of frames.items) (tree_of operand)) }
+{
+    while let Some(frame) = frames.pop() {
+        if !binds(&frame, least) {
+            frames.push(frame)?;
+            break;
+        }
+        operand = ended(alloc, frame, operand)?;
+    }
+    Ok((frames, operand))
+}
+
+/// How tightly what comes in this frame has to bind.
+pub fn frame_demand(frame: &Frame) -> u8
+    ensures { result ≡ frame_demand (frame_of frame.now) }
+{
+    match frame {
+        Frame::Front(prefix) => prefix_level(*prefix) + 1,
+        Frame::Left { op, .. } => level(*op) + 1,
+        _ => 0,
+    }
+}
+
+/// How tightly what comes next has to bind.
+pub fn demand(frames: &[Frame]) -> u8
+    ensures { result ≡ model.demand (frames_of frames.now) }
+{
+    match frames.last() {
+        Some(frame) => frame_demand(frame),
+        None => 0,
+    }
+}
+
+/// A one-sided operator.
+#[tactic(auto, using(crate::proofs::FrameViews::frames))]
+pub fn front(prefix: Prefix, mut frames: Vec<Frame>) -> Result<Option<State>, AllocError>
+    ensures { IfOk result (λ next. option_map state_of next ≡ model.front (prefix_of prefix) (frames_of frames.items)) }
+{
+    if demand(&frames) > prefix_level(prefix) {
+        return Ok(None);
+    }
+    frames.push(Frame::Front(prefix))?;
+    Ok(Some(State::Want { frames }))
+}
+
+/// A chain begins with an expression that has come in these frames.
+#[tactic(auto, using(crate::proofs::FrameViews::frames))]
+fn begin_chain(
+    alloc: Global,
+    op: BinOp,
+    mut frames: Vec<Frame>,
+    operand: Expr,
+) -> Result<Option<State>, AllocError>
+    ensures { IfOk result (λ next. option_map state_of next ≡ model.begin_chain op (frames_of frames.items) (tree_of operand)) }
+{
+    if demand(&frames) > level(op) {
+        return Ok(None);
+    }
+    frames.push(Frame::Left {
+        first: operand,
+        rest: Items::new(alloc),
+        op,
+    })?;
+    Ok(Some(State::Want { frames }))
+}
+
+/// The operand of the last operator of a chain has come. The chain goes on where its operators are
+/// of the new one's level and may stand in a row, and otherwise is the operand of the next.
+#[tactic(auto, using(crate::proofs::FrameViews::frames, dt_grammar::proofs::Trees::trees))]
+fn extend_chain(
+    alloc: Global,
+    op: BinOp,
+    first: Expr,
+    mut rest: Items<Tail>,
+    last: BinOp,
+    mut frames: Vec<Frame>,
+    operand: Expr,
+) -> Result<Option<State>, AllocError>
+    ensures { IfOk result (λ next. option_map state_of next
+        ≡ model.extend_chain (grammar.level last == grammar.level op) (grammar.is_single op) op (tree_of first) (tails_of rest) last (frames_of frames.items) (tree_of operand)) }
+{
+    if level(last) != level(op) {
+        frames.push(Frame::Left {
+            first,
+            rest,
+            op: last,
+        })?;
+        return begin_chain(alloc, op, frames, operand);
+    }
+    if is_single(op) {
+        return Ok(None);
+    }
+    rest.push(Tail {
+        op: last,
+        arg: operand,
+    })?;
+    frames.push(Frame::Left { first, rest, op })?;
+    Ok(Some(State::Want { frames }))
+}
+
+/// A two-sided operator behind an expression that has come in these frames. It goes on with a
+/// chain of its level, or begins one.
+#[tactic(auto, using(crate::proofs::FrameViews::frames))]
+pub fn infix_op(
+    alloc: Global,
+    op: BinOp,
+    mut frames: Vec<Frame>,
+    operand: Expr,
+) -> Result<Option<State>, AllocError>
+    ensures { IfOk result (λ next. option_map state_of next ≡ model.infix_op op (closed_of frames.items operand)) }
+{
+    let Some(frame) = frames.pop() else {
+        return begin_chain(alloc, op, frames, operand);
+    };
+    match frame {
+        Frame::Left {
+            first,
+            rest,
+            op: last,
+        } => extend_chain(alloc, op, first, rest, last, frames, operand),
+        frame => {
+            frames.push(frame)?;
+            begin_chain(alloc, op, frames, operand)
+        }
+    }
+}

@@ -1,0 +1,270 @@
+ghost use Rattle.std.specs.Prelude.{◌≡◌, ◌∷◌, IfOk, Some, None, option_map};
+ghost use Rattle.run_model.specs.TreeView.{tree_of, args_of, stmts_of};
+ghost use Rattle.run_model.specs.GrammarTrees as grammar;
+ghost use Rattle.dt_grammar.specs.Machine as model;
+ghost use Rattle.dt_script.specs.Frames.{head_tree, filled_of, frames_of, state_of, symbol_of, call_of};
+
+use crate::brackets::with_arg;
+use crate::endings::last_stmt;
+use crate::frames::{Filled, Formula, Frame, Head, State, Symbol};
+use crate::having::have;
+use crate::operators::close;
+use crate::wanting::want;
+use dt_base::{Op, Text};
+use dt_tree::{Arg, BinOp, Expr, Stmt};
+use sqlite_items::Items;
+use std::alloc::{AllocError, Global};
+
+/// A token where the name of an item is to come.
+fn need_name(head: Head, filled: Filled, frames: Vec<Frame>, symbol: Symbol) -> Option<State>
+    ensures { option_map state_of result ≡ model.step (model.NeedName (head_tree head) (filled_of filled) (frames_of frames.items)) (symbol_of symbol) }
+{
+    match symbol {
+        Symbol::Name(name) => Some(State::NeedIs {
+            head,
+            filled,
+            name,
+            frames,
+        }),
+        other => {
+            // By a call, so that the proof has no case for each form that is dropped.
+            drop((other, head, filled));
+            None
+        }
+    }
+}
+
+/// An item begins behind its name and `=`.
+#[tactic(auto, using(crate::proofs::FrameViews::frames))]
+fn begin_named(
+    head: Head,
+    filled: Filled,
+    name: Text,
+    mut frames: Vec<Frame>,
+) -> Result<Option<State>, AllocError>
+    ensures { IfOk result (λ next. option_map state_of next
+        ≡ Some (model.Want (model.InNamed (head_tree head) (filled_of filled) name ∷ frames_of frames.items))) }
+{
+    frames.push(Frame::InNamed { head, filled, name })?;
+    Ok(Some(State::Want { frames }))
+}
+
+/// A token behind the name of an item.
+fn need_is(
+    head: Head,
+    filled: Filled,
+    name: Text,
+    frames: Vec<Frame>,
+    symbol: Symbol,
+) -> Result<Option<State>, AllocError>
+    ensures { IfOk result (λ next. option_map state_of next
+        ≡ model.step (model.NeedIs (head_tree head) (filled_of filled) name (frames_of frames.items)) (symbol_of symbol)) }
+{
+    match symbol {
+        Symbol::Is => begin_named(head, filled, name, frames),
+        other => {
+            // By a call, so that the proof has no case for each form that is dropped.
+            drop((other, head, filled));
+            Ok(None)
+        }
+    }
+}
+
+/// A token where a name on the right of `~` is to come.
+fn need_word(
+    formula: Formula,
+    frames: Vec<Frame>,
+    symbol: Symbol,
+) -> Result<Option<State>, AllocError>
+    ensures { IfOk result (λ next. option_map state_of next
+        ≡ model.step (model.NeedWord formula.call (args_of formula.args) formula.target formula.left formula.right (frames_of frames.items)) (symbol_of symbol)) }
+{
+    let Formula {
+        call,
+        args,
+        target,
+        left,
+        mut right,
+    } = formula;
+    match symbol {
+        Symbol::Name(name) => {
+            right.push(name)?;
+            Ok(Some(State::HaveWords {
+                formula: Formula {
+                    call,
+                    args,
+                    target,
+                    left,
+                    right,
+                },
+                frames,
+            }))
+        }
+        _ => Ok(None),
+    }
+}
+
+/// An operator behind the names on the right of `~`: behind `+` one more name is to come.
+fn more_names(op: BinOp, formula: Formula, frames: Vec<Frame>) -> Option<State>
+    ensures { option_map state_of result
+        ≡ model.step (model.HaveWords formula.call (args_of formula.args) formula.target formula.left formula.right (frames_of frames.items)) (grammar.Operator op) }
+{
+    match op {
+        BinOp::Arith(Op::Add) => Some(State::NeedWord { formula, frames }),
+        _ => None,
+    }
+}
+
+/// The call that a formula stands in, with the formula as its last argument.
+#[tactic(auto, using(dt_grammar::proofs::Trees::trees))]
+fn argument(formula: Formula) -> Result<(Text, Items<Arg>), AllocError>
+    ensures { IfOk result (λ call. call_of call ≡ (formula.call, grammar.MoreArgs (args_of formula.args) formula.target (grammar.Formula formula.left formula.right))) }
+{
+    let Formula {
+        call,
+        args,
+        target,
+        left,
+        right,
+    } = formula;
+    let args = with_arg(args, target, Expr::Formula { left, right })?;
+    Ok((call, args))
+}
+
+/// `)` behind a formula, which is the last argument of its call.
+#[tactic(auto, using(dt_grammar::proofs::Trees::trees))]
+fn end_call(formula: Formula, frames: Vec<Frame>) -> Result<Option<State>, AllocError>
+    ensures { IfOk result (λ next. option_map state_of next
+        ≡ Some (model.Have (frames_of frames.items) (grammar.Call formula.call (grammar.MoreArgs (args_of formula.args) formula.target (grammar.Formula formula.left formula.right))))) }
+{
+    let (name, args) = argument(formula)?;
+    Ok(Some(State::Have {
+        frames,
+        operand: Expr::Call { name, args },
+    }))
+}
+
+/// `,` behind a formula: the next argument of its call begins.
+#[tactic(auto, using(crate::proofs::FrameViews::frames))]
+fn next_argument(formula: Formula, mut frames: Vec<Frame>) -> Result<Option<State>, AllocError>
+    ensures { IfOk result (λ next. option_map state_of next
+        ≡ Some (model.Want (model.InCall formula.call (grammar.MoreArgs (args_of formula.args) formula.target (grammar.Formula formula.left formula.right)) None ∷ frames_of frames.items))) }
+{
+    let (name, args) = argument(formula)?;
+    frames.push(Frame::InCall {
+        name,
+        args,
+        target: None,
+    })?;
+    Ok(Some(State::Want { frames }))
+}
+
+/// A token behind the names on the right of `~`.
+fn have_words(
+    formula: Formula,
+    frames: Vec<Frame>,
+    symbol: Symbol,
+) -> Result<Option<State>, AllocError>
+    ensures { IfOk result (λ next. option_map state_of next
+        ≡ model.step (model.HaveWords formula.call (args_of formula.args) formula.target formula.left formula.right (frames_of frames.items)) (symbol_of symbol)) }
+{
+    match symbol {
+        Symbol::Operator(op) => Ok(more_names(op, formula, frames)),
+        Symbol::Shut => end_call(formula, frames),
+        Symbol::Comma => next_argument(formula, frames),
+        other => {
+            // By a call, so that the proof has no case for each form that is dropped.
+            drop((other, formula));
+            Ok(None)
+        }
+    }
+}
+
+/// What one more token makes of the state, or none where no script goes on so.
+pub fn step(alloc: Global, state: State, symbol: Symbol) -> Result<Option<State>, AllocError>
+    ensures { IfOk result (λ next. option_map state_of next ≡ model.step (state_of state) (symbol_of symbol)) }
+{
+    match state {
+        State::Want { frames } => want(alloc, frames, symbol),
+        State::Have { frames, operand } => have(alloc, frames, operand, symbol),
+        State::NeedName {
+            head,
+            filled,
+            frames,
+        } => Ok(need_name(head, filled, frames, symbol)),
+        State::NeedIs {
+            head,
+            filled,
+            name,
+            frames,
+        } => need_is(head, filled, name, frames, symbol),
+        State::NeedWord { formula, frames } => need_word(formula, frames, symbol),
+        State::HaveWords { formula, frames } => have_words(formula, frames, symbol),
+    }
+}
+
+/// The statements, where the script may end where nothing has come.
+#[tactic(auto, using(crate::proofs::FrameViews::frames))]
+fn finish_none(mut frames: Vec<Frame>) -> Option<Items<Stmt>>
+    ensures { option_map stmts_of result ≡ model.finish (model.Want (frames_of frames.items)) }
+{
+    match frames.pop() {
+        Some(
+            Frame::InStmt {
+                done,
+                target: None,
+                ..
+            },
+        ) => Some(done),
+        _ => None,
+    }
+}
+
+/// The statements, where the script may end behind this expression.
+fn finish_stmt(
+    alloc: Global,
+    frames: Vec<Frame>,
+    operand: Expr,
+) -> Result<Option<Items<Stmt>>, AllocError>
+    ensures { IfOk result (λ done. option_map stmts_of done ≡ model.finish (model.Have (frames_of frames.items) (tree_of operand))) }
+{
+    let (frames, operand) = close(alloc, frames, operand, 0)?;
+    last_stmt(frames, operand)
+}
+
+/// No statements, where the name of an item is to come.
+fn finish_unnamed(_head: Head, _filled: Filled, _frames: Vec<Frame>) -> Option<Items<Stmt>>
+    ensures { result ≡ None }
+{
+    None
+}
+
+/// No statements, in a formula.
+fn finish_formula(_formula: Formula, _frames: Vec<Frame>) -> Option<Items<Stmt>>
+    ensures { result ≡ None }
+{
+    None
+}
+
+/// The statements, where the script may end here.
+pub fn finish(alloc: Global, state: State) -> Result<Option<Items<Stmt>>, AllocError>
+    ensures { IfOk result (λ done. option_map stmts_of done ≡ model.finish (state_of state)) }
+{
+    match state {
+        State::Want { frames } => Ok(finish_none(frames)),
+        State::Have { frames, operand } => finish_stmt(alloc, frames, operand),
+        State::NeedName {
+            head,
+            filled,
+            frames,
+        } => Ok(finish_unnamed(head, filled, frames)),
+        State::NeedIs {
+            head,
+            filled,
+            name: _name,
+            frames,
+        } => Ok(finish_unnamed(head, filled, frames)),
+        State::NeedWord { formula, frames } => Ok(finish_formula(formula, frames)),
+        State::HaveWords { formula, frames } => Ok(finish_formula(formula, frames)),
+    }
+}
