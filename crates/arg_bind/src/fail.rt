@@ -1,6 +1,7 @@
 ghost use Rattle.dt_base.specs.Fault.{fault};
 ghost use Rattle.session_model.specs.Value.{number_fault};
-ghost use Rattle.arg_bind.specs.Answers.{IsStop};
+ghost use Rattle.std.specs.Prelude.{◌≡◌, false};
+ghost use Rattle.arg_bind.specs.Answers.{IsStop, is_of_file, IsOwn};
 
 use dt_base::{Code, Fault, Text};
 use std::alloc::{AllocError, Global};
@@ -25,7 +26,8 @@ impl From<AllocError> for EvalFail {
 
 /// The fault of this code that tells a name and no numbers, or want of memory for its text.
 pub fn stop(alloc: Global, code: Code, what: &str) -> EvalFail
-    ensures { IsStop (fault code what.now) result }
+    ensures fault { IsStop (fault code what.now) result }
+    ensures own { is_of_file code ≡ false → IsOwn result }
 {
     match Fault::of(alloc, code, what) {
         Ok(fault) => EvalFail::Stop(fault),
@@ -35,7 +37,8 @@ pub fn stop(alloc: Global, code: Code, what: &str) -> EvalFail
 
 /// The fault of this code that tells a number and no name, or want of memory.
 pub fn stop_number(alloc: Global, code: Code, n: u64) -> EvalFail
-    ensures { IsStop (number_fault code n) result }
+    ensures fault { IsStop (number_fault code n) result }
+    ensures own { is_of_file code ≡ false → IsOwn result }
 {
     match Text::make(alloc, "") {
         Ok(what) => EvalFail::Stop(Fault {

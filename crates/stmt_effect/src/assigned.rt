@@ -1,5 +1,5 @@
-ghost use Rattle.std.specs.Prelude.{◌≡◌, IfOk};
-ghost use Rattle.arg_bind.specs.Answers.{AnswersAs};
+ghost use Rattle.std.specs.Prelude.{IfErr, ◌≡◌, IfOk};
+ghost use Rattle.arg_bind.specs.Answers.{AnswersAs, IsOwn};
 ghost use Rattle.session_model.specs.Statement.{value_change, assigned};
 ghost use Rattle.session_model.specs.Value as value;
 ghost use Rattle.stmt_effect.specs.Effects.{plain_change, plain_effect, FitsIn};
@@ -21,7 +21,8 @@ fn copied_vector<L: Ledger>(
     column: &Column,
     steps: &mut Steps<L>,
 ) -> Result<Change, EvalFail>
-    ensures { AnswersAs plain_change (value_change name (value.Cells column.now.vector)) result }
+    ensures answer { AnswersAs plain_change (value_change name (value.Cells column.now.vector)) result }
+    ensures own { IfErr result IsOwn }
 {
     Ok(Change::BindVector {
         name,
@@ -38,6 +39,7 @@ fn value_change<L: Ledger>(
 ) -> Result<Change, EvalFail>
     ensures answer { AnswersAs plain_change (value_change name (plain_value value.entry)) result }
     ensures fits { (h : HeapSeen) → IsValueIn h value.entry → IfOk result (FitsIn h) }
+    ensures own { IfErr result IsOwn }
 {
     match value {
         Value::Named(id) => Ok(Change::Alias { name, id }),
@@ -57,6 +59,7 @@ pub fn assigned<L: Ledger>(
 ) -> Result<Effect, EvalFail>
     ensures answer { AnswersAs plain_effect (assigned name.now (plain_given given.entry)) result }
     ensures fits { (h : HeapSeen) → IsValueIn h given.entry.value → IfOk result (λ e. FitsIn h e.change) }
+    ensures own { IfErr result IsOwn }
 {
     let Given { value, warns } = given;
     let change = value_change(alloc, name.copy()?, value, steps)?;

@@ -1,6 +1,6 @@
 ghost use Rattle.std.specs.Prelude.{◌≡◌, ◌≤◌, IfOk, IfErr, IsSome, IsErrOf, Some, cond, map};
 ghost use Rattle.std.specs.FinMap as finite;
-ghost use Rattle.arg_bind.specs.Answers.{AnswersAs};
+ghost use Rattle.arg_bind.specs.Answers.{AnswersAs, IsOwn};
 ghost use Rattle.dt_world.specs.Causes.{Rose};
 ghost use Rattle.session_model.specs.Meaning.{meaning, arg_meaning, names_in, argument, package_named, known_package, bare_name, removed_name, written_given, command};
 ghost use Rattle.dt_table.specs.Plain.{plain};
@@ -10,7 +10,7 @@ ghost use Rattle.session_model.specs.Effect as model;
 ghost use Rattle.session_model.specs.Then.{then_do};
 ghost use Rattle.stmt_value.specs.Fails.{IsNoMemory};
 ghost use Rattle.stmt_effect.specs.Effects.{plain_effect, FitsIn};
-ghost use Rattle.stmt_value.specs.Answers.{Gives};
+ghost use Rattle.stmt_value.specs.Answers.{Gives, Blames};
 ghost use Rattle.stmt_value.specs.Values.{plain_given, scene, IsValueIn};
 ghost use Rattle.table_heap.specs.Seen.{HeapSeen};
 ghost use Rattle.table_heap.specs.State.{state_of};
@@ -33,6 +33,7 @@ use table_heap::{Heap, Look};
 fn known_package(alloc: Global, e: &Expr) -> Result<Effect, EvalFail>
     ensures answer { AnswersAs plain_effect (known_package (meaning e.now).form) result }
     ensures fits { (h : HeapSeen) → IfOk result (λ e. FitsIn h e.change) }
+    ensures own { IfErr result IsOwn }
 {
     match bare_name(e) {
         Some(name) => package_named(alloc, name),
@@ -44,6 +45,7 @@ fn known_package(alloc: Global, e: &Expr) -> Result<Effect, EvalFail>
 fn package_named(alloc: Global, name: &str) -> Result<Effect, EvalFail>
     ensures answer { AnswersAs plain_effect (package_named (Some name.now)) result }
     ensures fits { (h : HeapSeen) → IfOk result (λ e. FitsIn h e.change) }
+    ensures own { IfErr result IsOwn }
 {
     if name == "data.table" {
         Ok(Effect::nothing(alloc))
@@ -56,6 +58,7 @@ fn package_named(alloc: Global, name: &str) -> Result<Effect, EvalFail>
 fn library(alloc: Global, args: &[Arg]) -> Result<Effect, EvalFail>
     ensures answer { AnswersAs plain_effect (then_do (argument (map arg_meaning args.now) 0 Formal.Package) (λ a. known_package a.form)) result }
     ensures fits { (h : HeapSeen) → IfOk result (λ e. FitsIn h e.change) }
+    ensures own { IfErr result IsOwn }
 {
     let package = argument(alloc, args, 0, Formal::Package)?;
     known_package(alloc, package)
@@ -77,6 +80,7 @@ fn print<F: Files, L: Ledger>(
     ensures misses { F.misses files.old ≤ F.misses files.new }
     ensures longs { F.longs files.old ≤ F.longs files.new }
     ensures write_faults { F.write_faults files.new ≡ F.write_faults files.old }
+    ensures cause { IfErr result (Blames (F.held files.old) (Rose (F.misses files.old) (F.misses files.new)) (Rose (F.longs files.old) (F.longs files.new))) }
 {
     let arg = argument(alloc, args, 0, Formal::Value)?;
     let given = value(alloc, arg, heap, files, steps)?;
@@ -107,6 +111,7 @@ fn written<L: Ledger>(
     requires { IsValueIn heap.now given.now.value }
     ensures answer { AnswersAs plain_effect (written_given (state_of heap.now) (plain_given given.now) (meaning file.now).form) result }
     ensures fits { IfOk result (λ e. FitsIn heap.now e.change) }
+    ensures own { IfErr result IsOwn }
 {
     let table = wanted_table(alloc, &given.value, heap)?;
     let name = Text::make(alloc, named_file(alloc, file)?)?;
@@ -137,6 +142,7 @@ fn fwrite<F: Files, L: Ledger>(
     ensures misses { F.misses files.old ≤ F.misses files.new }
     ensures longs { F.longs files.old ≤ F.longs files.new }
     ensures write_faults { F.write_faults files.new ≡ F.write_faults files.old }
+    ensures cause { IfErr result (Blames (F.held files.old) (Rose (F.misses files.old) (F.misses files.new)) (Rose (F.longs files.old) (F.longs files.new))) }
 {
     let arg = argument(alloc, args, 0, Formal::Table)?;
     let given = value(alloc, arg, heap, files, steps)?;
@@ -146,7 +152,8 @@ fn fwrite<F: Files, L: Ledger>(
 
 /// The name that stands bare; anything else is E19 with `name`.
 fn removable(alloc: Global, e: &Expr) -> Result<&str, EvalFail>
-    ensures { AnswersAs (λ s. s.now) (bare_name (meaning e.now).form) result }
+    ensures answer { AnswersAs (λ s. s.now) (bare_name (meaning e.now).form) result }
+    ensures own { IfErr result IsOwn }
 {
     match bare_name(e) {
         Some(name) => Ok(name),
@@ -158,6 +165,7 @@ fn removable(alloc: Global, e: &Expr) -> Result<&str, EvalFail>
 fn removed(alloc: Global, name: &str, heap: &Heap) -> Result<Effect, EvalFail>
     ensures answer { AnswersAs plain_effect (removed_name name.now (finite.get (state_of heap.now).names name.now)) result }
     ensures fits { IfOk result (λ e. FitsIn heap.now e.change) }
+    ensures own { IfErr result IsOwn }
 {
     match heap.look(name) {
         Look::Absent => Err(stop(alloc, Code::E02, name)),
@@ -169,6 +177,7 @@ fn removal(alloc: Global, name: &str) -> Result<Effect, EvalFail>
     ensures effect { IfOk result (λ e. plain_effect e ≡ model.changes (model.Remove name.now)) }
     ensures refused { IfErr result IsNoMemory }
     ensures fits { (h : HeapSeen) → IfOk result (λ e. FitsIn h e.change) }
+    ensures own { IfErr result IsOwn }
 {
     let name = Text::make(alloc, name)?;
     Ok(Effect::changes(alloc, Change::Remove { name }, Warns::none()))
@@ -178,6 +187,7 @@ fn removal(alloc: Global, name: &str) -> Result<Effect, EvalFail>
 fn rm(alloc: Global, args: &[Arg], heap: &Heap) -> Result<Effect, EvalFail>
     ensures answer { AnswersAs plain_effect (then_do (argument (map arg_meaning args.now) 0 Formal.Name) (λ a. then_do (bare_name a.form) (λ name. removed_name name (finite.get (state_of heap.now).names name)))) result }
     ensures fits { IfOk result (λ e. FitsIn heap.now e.change) }
+    ensures own { IfErr result IsOwn }
 {
     let arg = argument(alloc, args, 0, Formal::Name)?;
     let name = removable(alloc, arg)?;
@@ -201,6 +211,7 @@ pub fn command<F: Files, L: Ledger>(
     ensures misses { F.misses files.old ≤ F.misses files.new }
     ensures longs { F.longs files.old ≤ F.longs files.new }
     ensures write_faults { F.write_faults files.new ≡ F.write_faults files.old }
+    ensures cause { IfErr result (Blames (F.held files.old) (Rose (F.misses files.old) (F.misses files.new)) (Rose (F.longs files.old) (F.longs files.new))) }
 {
     match f {
         Func::Library => Ok(library(alloc, args)?),

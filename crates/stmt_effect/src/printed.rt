@@ -1,5 +1,5 @@
-ghost use Rattle.std.specs.Prelude.{◌≡◌, IfOk};
-ghost use Rattle.arg_bind.specs.Answers.{AnswersAs};
+ghost use Rattle.std.specs.Prelude.{IfErr, ◌≡◌, IfOk};
+ghost use Rattle.arg_bind.specs.Answers.{AnswersAs, IsOwn};
 ghost use Rattle.session_model.specs.Meaning.{printed_given};
 ghost use Rattle.session_model.specs.Statement.{bare};
 ghost use Rattle.session_model.specs.Value.{printed_value};
@@ -45,6 +45,7 @@ pub fn bare<L: Ledger>(
     requires { IsValueIn heap.now given.now.value }
     ensures answer { AnswersAs plain_effect (bare (state_of heap.now) (plain_given given.now)) result }
     ensures fits { IfOk result (λ e. FitsIn heap.now e.change) }
+    ensures own { IfErr result IsOwn }
 {
     let text = value_text(alloc, &given.value, heap, steps)?;
     Ok(Effect::prints(text, given.warns))
@@ -60,6 +61,7 @@ pub fn printed<L: Ledger>(
     requires { IsValueIn heap.now given.now.value }
     ensures answer { AnswersAs plain_effect (printed_given (state_of heap.now) (plain_given given.now)) result }
     ensures fits { IfOk result (λ e. FitsIn heap.now e.change) }
+    ensures own { IfErr result IsOwn }
 {
     match &given.value {
         Value::Null => Err(stop(alloc, Code::E04, "NULL")),

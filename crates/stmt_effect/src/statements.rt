@@ -1,11 +1,11 @@
-ghost use Rattle.std.specs.Prelude.{◌≡◌, ◌≤◌, IfOk, IsSome, IsErrOf, Some, map};
+ghost use Rattle.std.specs.Prelude.{◌≡◌, ◌≤◌, IfOk, IfErr, IsSome, IsErrOf, Some, map};
 ghost use Rattle.dt_world.specs.Causes.{Rose};
 ghost use Rattle.func_table.specs.Calls.{func_of, kind_of};
 ghost use Rattle.session_model.specs.Meaning.{meaning, arg_meaning, command_of, command_named, command_step, bound_command};
 ghost use Rattle.session_model.specs.Statement.{value_step, step_of, step};
 ghost use Rattle.session_model.specs.World.{look};
 ghost use Rattle.stmt_effect.specs.Effects.{plain_effect, FitsIn};
-ghost use Rattle.stmt_value.specs.Answers.{Gives};
+ghost use Rattle.stmt_value.specs.Answers.{Gives, Blames};
 ghost use Rattle.stmt_value.specs.Values.{scene};
 ghost use Rattle.table_heap.specs.State.{state_of};
 
@@ -40,6 +40,7 @@ fn value_step<F: Files, L: Ledger>(
     ensures misses { F.misses files.old ≤ F.misses files.new }
     ensures longs { F.longs files.old ≤ F.longs files.new }
     ensures write_faults { F.write_faults files.new ≡ F.write_faults files.old }
+    ensures cause { IfErr result (Blames (F.held files.old) (Rose (F.misses files.old) (F.misses files.new)) (Rose (F.longs files.old) (F.longs files.new))) }
 {
     let given = value(alloc, e, heap, files, steps)?;
     match target {
@@ -66,6 +67,7 @@ fn command_step<F: Files, L: Ledger>(
     ensures misses { F.misses files.old ≤ F.misses files.new }
     ensures longs { F.longs files.old ≤ F.longs files.new }
     ensures write_faults { F.write_faults files.new ≡ F.write_faults files.old }
+    ensures cause { IfErr result (Blames (F.held files.old) (Rose (F.misses files.old) (F.misses files.new)) (Rose (F.longs files.old) (F.longs files.new))) }
 {
     match target {
         None => bound_command(alloc, f, args, heap, files, steps),
@@ -90,6 +92,7 @@ fn bound_command<F: Files, L: Ledger>(
     ensures misses { F.misses files.old ≤ F.misses files.new }
     ensures longs { F.longs files.old ≤ F.longs files.new }
     ensures write_faults { F.write_faults files.new ≡ F.write_faults files.old }
+    ensures cause { IfErr result (Blames (F.held files.old) (Rose (F.misses files.old) (F.misses files.new)) (Rose (F.longs files.old) (F.longs files.new))) }
 {
     bind(alloc, f, args)?;
     command(alloc, f, args, heap, files, steps)
@@ -114,6 +117,7 @@ fn call_step<F: Files, L: Ledger>(
     ensures misses { F.misses files.old ≤ F.misses files.new }
     ensures longs { F.longs files.old ≤ F.longs files.new }
     ensures write_faults { F.write_faults files.new ≡ F.write_faults files.old }
+    ensures cause { IfErr result (Blames (F.held files.old) (Rose (F.misses files.old) (F.misses files.new)) (Rose (F.longs files.old) (F.longs files.new))) }
 {
     match func_named(name) {
         None => value_step(alloc, e, target, heap, files, steps),
@@ -140,6 +144,7 @@ fn known_step<F: Files, L: Ledger>(
     ensures misses { F.misses files.old ≤ F.misses files.new }
     ensures longs { F.longs files.old ≤ F.longs files.new }
     ensures write_faults { F.write_faults files.new ≡ F.write_faults files.old }
+    ensures cause { IfErr result (Blames (F.held files.old) (Rose (F.misses files.old) (F.misses files.new)) (Rose (F.longs files.old) (F.longs files.new))) }
 {
     match kind_of(f) {
         Kind::Table => value_step(alloc, e, target, heap, files, steps),
@@ -164,6 +169,7 @@ fn served_step<F: Files, L: Ledger>(
     ensures misses { F.misses files.old ≤ F.misses files.new }
     ensures longs { F.longs files.old ≤ F.longs files.new }
     ensures write_faults { F.write_faults files.new ≡ F.write_faults files.old }
+    ensures cause { IfErr result (Blames (F.held files.old) (Rose (F.misses files.old) (F.misses files.new)) (Rose (F.longs files.old) (F.longs files.new))) }
 {
     match e {
         Expr::Call { name, args } => {
@@ -213,6 +219,7 @@ pub fn compute<F: Files, L: Ledger>(
     ensures misses { F.misses files.old ≤ F.misses files.new }
     ensures longs { F.longs files.old ≤ F.longs files.new }
     ensures write_faults { F.write_faults files.new ≡ F.write_faults files.old }
+    ensures cause { IfErr result (Blames (F.held files.old) (Rose (F.misses files.old) (F.misses files.new)) (Rose (F.longs files.old) (F.longs files.new))) }
 {
     if !is_served(&stmt.expr) {
         return Err(refusal(alloc, Code::E19, "unbuilt"));

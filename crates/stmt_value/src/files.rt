@@ -4,8 +4,8 @@ ghost use Rattle.dt_world.specs.Causes.{Rose};
 ghost use Rattle.session_model.specs.Value.{file_bytes, file_table, records_given};
 ghost use Rattle.session_model.specs.World.{look};
 ghost use Rattle.run_model.specs.Csv.{read_csv};
-ghost use Rattle.stmt_value.specs.Answers.{Gives, IsStop};
-ghost use Rattle.arg_bind.specs.Answers.{AnswersAs};
+ghost use Rattle.stmt_value.specs.Answers.{Gives, IsStop, Blames};
+ghost use Rattle.arg_bind.specs.Answers.{AnswersAs, IsOwn};
 ghost use Rattle.stmt_value.specs.Fails.{IsFileStop};
 ghost use Rattle.stmt_value.specs.Made.{file_given};
 
@@ -44,6 +44,7 @@ fn read_file<F: Files>(alloc: Global, files: &mut F, name: &str) -> Result<Vec<u
     ensures misses { F.misses files.old ≤ F.misses files.new }
     ensures longs { F.longs files.old ≤ F.longs files.new }
     ensures write_faults { F.write_faults files.new ≡ F.write_faults files.old }
+    ensures cause { IfErr result (Blames (F.held files.old) (Rose (F.misses files.old) (F.misses files.new)) (Rose (F.longs files.old) (F.longs files.new))) }
 {
     match files.read(name, MAX_FILE_BYTES) {
         Ok(bytes) => Ok(bytes),
@@ -56,7 +57,8 @@ fn read_file<F: Files>(alloc: Global, files: &mut F, name: &str) -> Result<Vec<u
 
 /// The fault of a file whose records are at fault.
 fn record_stop(alloc: Global, fail: CsvFail) -> EvalFail
-    ensures { IsFileStop fail result }
+    ensures answer { IsFileStop fail result }
+    ensures own { IsOwn result }
 {
     match fail {
         CsvFail::Ragged { at } => stop_number(alloc, Code::E17, at),
@@ -74,7 +76,8 @@ fn records<L: Ledger>(
     steps: &mut Steps<L>,
 ) -> Result<(Table, Warns), EvalFail>
     requires { length bytes.now ≤ 67108864 }
-    ensures { AnswersAs file_given (records_given (read_csv bytes.now)) result }
+    ensures answer { AnswersAs file_given (records_given (read_csv bytes.now)) result }
+    ensures own { IfErr result IsOwn }
 {
     match read_table(alloc, bytes, steps) {
         Ok(table) => Ok(table),
@@ -99,6 +102,7 @@ pub fn file_table<F: Files, L: Ledger>(
     ensures misses { F.misses files.old ≤ F.misses files.new }
     ensures longs { F.longs files.old ≤ F.longs files.new }
     ensures write_faults { F.write_faults files.new ≡ F.write_faults files.old }
+    ensures cause { IfErr result (Blames (F.held files.old) (Rose (F.misses files.old) (F.misses files.new)) (Rose (F.longs files.old) (F.longs files.new))) }
 {
     let bytes = read_file(alloc, files, name)?;
     Ok(records(alloc, &bytes, steps)?)

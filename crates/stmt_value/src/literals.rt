@@ -1,7 +1,7 @@
-ghost use Rattle.std.specs.Prelude.{◌≡◌, IfOk, length};
+ghost use Rattle.std.specs.Prelude.{◌≡◌, IfOk, IfErr, length};
 ghost use Rattle.dt_base.specs.declared.cell.Cell.TheVariants as is;
 ghost use Rattle.dt_base.specs.declared.cell.ColType.TheVariants as ty;
-ghost use Rattle.arg_bind.specs.Answers.{AnswersAs, IsStop};
+ghost use Rattle.arg_bind.specs.Answers.{AnswersAs, IsStop, IsOwn};
 ghost use Rattle.session_model.specs.Form.{literal_cell, negative};
 ghost use Rattle.session_model.specs.Meaning.{meaning, negative_form, literal_vector, unbuilt};
 ghost use Rattle.session_model.specs.Value.{one_cell};
@@ -16,7 +16,8 @@ use std::alloc::{AllocError, Global};
 
 /// The fault of a form that no statement serves yet.
 pub fn unbuilt(alloc: Global) -> EvalFail
-    ensures { IsStop unbuilt result }
+    ensures answer { IsStop unbuilt result }
+    ensures own { IsOwn result }
 {
     stop(alloc, Code::E19, "unbuilt")
 }
@@ -72,6 +73,7 @@ pub fn literal(alloc: Global, kind: ColType, cell: &Cell) -> Result<Column, Allo
 fn negative_vector(alloc: Global, e: &Expr) -> Result<Column, EvalFail>
     ensures vector { AnswersAs vector_of (literal_vector (negative_form (negative (meaning e.now).form))) result }
     ensures one { IfOk result (λ c. length c.vector.cells ≡ 1) }
+    ensures own { IfErr result IsOwn }
 {
     match negative(e) {
         Some(n) => Ok(integer(alloc, n)?),
@@ -84,6 +86,7 @@ fn negative_vector(alloc: Global, e: &Expr) -> Result<Column, EvalFail>
 pub fn literal_vector(alloc: Global, e: &Expr) -> Result<Column, EvalFail>
     ensures vector { AnswersAs vector_of (literal_vector (meaning e.now).form) result }
     ensures one { IfOk result (λ c. length c.vector.cells ≡ 1) }
+    ensures own { IfErr result IsOwn }
 {
     match e {
         Expr::Lit { cell, kind } => Ok(literal(alloc, *kind, cell)?),

@@ -1,5 +1,5 @@
 ghost use Rattle.std.specs.Prelude.{◌≡◌, ◌<◌, ◌+◌, ◌∷◌, ◌++◌, [], All, IfOk, IfErr, OnOk, length, map, Some};
-ghost use Rattle.arg_bind.specs.Answers.{AnswersAs, IsStop};
+ghost use Rattle.arg_bind.specs.Answers.{AnswersAs, IsStop, IsOwn};
 ghost use Rattle.dt_base.specs.Fault.{fault};
 ghost use Rattle.dt_base.specs.declared.fault.Code.TheVariants.{E12};
 ghost use Rattle.dt_model.specs.Table.{name_at};
@@ -62,6 +62,7 @@ fn add_column(frame: &mut Frame, column: Column) -> Result<(), EvalFail>
     ensures columns { OnOk result (frame.new.columns ≡ frame.old.columns ++ column ∷ []) }
     ensures rows { OnOk result (frame.new.rows ≡ 1) }
     ensures refused { IfErr result IsNoMemory }
+    ensures own { IfErr result IsOwn }
 {
     Ok(frame.push_col(column)?)
 }
@@ -70,6 +71,7 @@ fn add_column(frame: &mut Frame, column: Column) -> Result<(), EvalFail>
 fn literal_column(alloc: Global, arg: &Arg) -> Result<Column, EvalFail>
     ensures vector { AnswersAs vector_of (literal_vector (arg_meaning arg.now).means.form) result }
     ensures one { IfOk result (λ c. length c.vector.cells ≡ 1) }
+    ensures own { IfErr result IsOwn }
 {
     literal_vector(alloc, &arg.value)
 }
@@ -79,6 +81,7 @@ fn literal_columns(alloc: Global, args: &[Arg]) -> Result<Frame, EvalFail>
     ensures columns { AnswersAs (λ f. vectors_of f.columns) (argument_vectors (map arg_meaning args.now)) result }
     ensures rows { IfOk result (λ f. f.rows ≡ longest (vectors_of f.columns)) }
     ensures count { IfOk result (λ f. length f.columns ≡ length args.now) }
+    ensures own { IfErr result IsOwn }
 {
     let mut frame = Frame::new(alloc);
     for arg in args {
@@ -90,7 +93,8 @@ fn literal_columns(alloc: Global, args: &[Arg]) -> Result<Frame, EvalFail>
 
 /// The fault of a name that stands twice, which is the one at this place.
 fn repeated(alloc: Global, names: &[ColName], place: usize) -> EvalFail
-    ensures { IsStop (fault E12 (name_at names.now place)) result }
+    ensures answer { IsStop (fault E12 (name_at names.now place)) result }
+    ensures own { IsOwn result }
 {
     match names.get(place) {
         Some(name) => stop(alloc, Code::E12, name.as_str()),
@@ -100,7 +104,8 @@ fn repeated(alloc: Global, names: &[ColName], place: usize) -> EvalFail
 
 /// The fault of a name that stands twice among those that these arguments give.
 fn repeated_argument(alloc: Global, args: &[Arg], place: usize) -> EvalFail
-    ensures { IsStop (fault E12 (name_at (column_names 1 (map arg_meaning args.now)) place)) result }
+    ensures answer { IsStop (fault E12 (name_at (column_names 1 (map arg_meaning args.now)) place)) result }
+    ensures own { IsOwn result }
 {
     match column_names(alloc, args) {
         Ok(names) => repeated(alloc, &names, place),
@@ -110,7 +115,8 @@ fn repeated_argument(alloc: Global, args: &[Arg], place: usize) -> EvalFail
 
 /// The fault of a table that is not made of what these arguments give.
 fn make_stop(alloc: Global, args: &[Arg], fail: MakeFail) -> EvalFail
-    ensures { IsMakeStop (column_names 1 (map arg_meaning args.now)) fail result }
+    ensures answer { IsMakeStop (column_names 1 (map arg_meaning args.now)) fail result }
+    ensures own { IsOwn result }
 {
     match fail {
         MakeFail::Duplicate { col } => repeated_argument(alloc, args, col),
@@ -124,7 +130,8 @@ fn make_stop(alloc: Global, args: &[Arg], fail: MakeFail) -> EvalFail
 /// The table of these columns, under the names that these arguments give.
 fn made(alloc: Global, args: &[Arg], frame: Frame) -> Result<Table, EvalFail>
     requires { length frame.columns ≡ length args.now }
-    ensures { AnswersAs plain (new_table (column_names 1 (map arg_meaning args.now)) frame.rows (vectors_of frame.columns)) result }
+    ensures answer { AnswersAs plain (new_table (column_names 1 (map arg_meaning args.now)) frame.rows (vectors_of frame.columns)) result }
+    ensures own { IfErr result IsOwn }
 {
     let names = column_names(alloc, args)?;
     match Table::make(alloc, names, frame) {
@@ -139,7 +146,8 @@ fn made(alloc: Global, args: &[Arg], frame: Frame) -> Result<Table, EvalFail>
 /// then more than 4,096 columns (E09). The manual's page data.table; the order is dtq's own,
 /// docs/LANGUAGE.md, section "Tables".
 pub fn data_table(alloc: Global, args: &[Arg]) -> Result<Table, EvalFail>
-    ensures { AnswersAs new_given (data_table (map arg_meaning args.now)) result }
+    ensures answer { AnswersAs new_given (data_table (map arg_meaning args.now)) result }
+    ensures own { IfErr result IsOwn }
 {
     let frame = literal_columns(alloc, args)?;
     made(alloc, args, frame)

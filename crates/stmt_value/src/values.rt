@@ -1,6 +1,6 @@
-ghost use Rattle.std.specs.Prelude.{◌≡◌, ◌≤◌, IfOk, IsSome, IsErrOf, Some, map};
+ghost use Rattle.std.specs.Prelude.{◌≡◌, ◌≤◌, IfOk, IfErr, IsSome, IsErrOf, Some, map};
 ghost use Rattle.std.specs.FinMap as finite;
-ghost use Rattle.arg_bind.specs.Answers.{AnswersAs};
+ghost use Rattle.arg_bind.specs.Answers.{AnswersAs, IsOwn};
 ghost use Rattle.dt_world.specs.Causes.{Rose};
 ghost use Rattle.func_table.specs.Calls.{func_of, kind_of};
 ghost use Rattle.session_model.specs.Meaning.{meaning, arg_meaning, argument, negative_value, data_table, named_file, copy_of, table_call, call_of_kind, call_value};
@@ -9,7 +9,7 @@ ghost use Rattle.dt_table.specs.Plain.{plain};
 ghost use Rattle.session_model.specs.Form.{literal_cell, negative};
 ghost use Rattle.session_model.specs.Value as model;
 ghost use Rattle.session_model.specs.Value.{bound_value, gives_value, wanted_table, copied, one_cell};
-ghost use Rattle.stmt_value.specs.Answers.{Gives};
+ghost use Rattle.stmt_value.specs.Answers.{Gives, Blames};
 ghost use Rattle.stmt_value.specs.Values.{plain_value, plain_given, scene, IsValueIn, IsNew};
 ghost use Rattle.table_heap.specs.State.{state_of};
 
@@ -39,7 +39,8 @@ fn is_meant(arg: &Arg)
 
 /// The argument that a formal takes, where `before` formals before it are free.
 pub fn argument(alloc: Global, args: &[Arg], before: usize, p: Formal) -> Result<&Expr, EvalFail>
-    ensures { AnswersAs (λ e. meaning e.now) (argument (map arg_meaning args.now) before p) result }
+    ensures answer { AnswersAs (λ e. meaning e.now) (argument (map arg_meaning args.now) before p) result }
+    ensures own { IfErr result IsOwn }
 {
     match place(args, before, p) {
         Some(i) => match args.get(i) {
@@ -66,14 +67,16 @@ fn quiet(value: Value<'_>) -> Given<'_>
 
 /// What a literal gives.
 fn literal_value<'a>(alloc: Global, kind: ColType, cell: &Cell) -> Result<Given<'a>, EvalFail>
-    ensures { AnswersAs plain_given (gives_value (model.Cells (one_cell kind (literal_cell kind cell.now)))) result }
+    ensures answer { AnswersAs plain_given (gives_value (model.Cells (one_cell kind (literal_cell kind cell.now)))) result }
+    ensures own { IfErr result IsOwn }
 {
     Ok(quiet(Value::Cells(literal(alloc, kind, cell)?)))
 }
 
 /// What `-` before an integer literal gives.
 fn negative_value<'a>(alloc: Global, arg: &Expr) -> Result<Given<'a>, EvalFail>
-    ensures { AnswersAs plain_given (negative_value (negative (meaning arg.now).form)) result }
+    ensures answer { AnswersAs plain_given (negative_value (negative (meaning arg.now).form)) result }
+    ensures own { IfErr result IsOwn }
 {
     match negative(arg) {
         Some(n) => Ok(quiet(Value::Cells(integer(alloc, n)?))),
@@ -85,6 +88,7 @@ fn negative_value<'a>(alloc: Global, arg: &Expr) -> Result<Given<'a>, EvalFail>
 fn bound<'a>(alloc: Global, name: &str, heap: &'a Heap) -> Result<Given<'a>, EvalFail>
     ensures given { AnswersAs plain_given (bound_value name.now (finite.get (state_of heap.now).names name.now)) result }
     ensures live { IfOk result (λ g. IsValueIn heap.now g.value) }
+    ensures own { IfErr result IsOwn }
 {
     match heap.look(name) {
         Look::Absent => Err(stop(alloc, Code::E02, name)),
@@ -100,7 +104,8 @@ pub fn wanted_table<'v>(
     heap: &'v Heap,
 ) -> Result<&'v Table, EvalFail>
     requires { IsValueIn heap.now value.now }
-    ensures { AnswersAs (λ t. plain t.now) (wanted_table (state_of heap.now) (plain_value value.now)) result }
+    ensures answer { AnswersAs (λ t. plain t.now) (wanted_table (state_of heap.now) (plain_value value.now)) result }
+    ensures own { IfErr result IsOwn }
 {
     match value {
         Value::Named(id) => Ok(heap.table(*id)),
@@ -143,6 +148,7 @@ pub fn value<'a, F: Files, L: Ledger>(
     ensures misses { F.misses files.old ≤ F.misses files.new }
     ensures longs { F.longs files.old ≤ F.longs files.new }
     ensures write_faults { F.write_faults files.new ≡ F.write_faults files.old }
+    ensures cause { IfErr result (Blames (F.held files.old) (Rose (F.misses files.old) (F.misses files.new)) (Rose (F.longs files.old) (F.longs files.new))) }
 {
     match e {
         Expr::Lit { cell, kind } => Ok(literal_value(alloc, *kind, cell)?),
@@ -176,6 +182,7 @@ fn call<'a, F: Files, L: Ledger>(
     ensures misses { F.misses files.old ≤ F.misses files.new }
     ensures longs { F.longs files.old ≤ F.longs files.new }
     ensures write_faults { F.write_faults files.new ≡ F.write_faults files.old }
+    ensures cause { IfErr result (Blames (F.held files.old) (Rose (F.misses files.old) (F.misses files.new)) (Rose (F.longs files.old) (F.longs files.new))) }
 {
     match func_named(name) {
         None => Err(refusal(alloc, Code::E02, name)),
@@ -201,6 +208,7 @@ fn known_call<'a, F: Files, L: Ledger>(
     ensures misses { F.misses files.old ≤ F.misses files.new }
     ensures longs { F.longs files.old ≤ F.longs files.new }
     ensures write_faults { F.write_faults files.new ≡ F.write_faults files.old }
+    ensures cause { IfErr result (Blames (F.held files.old) (Rose (F.misses files.old) (F.misses files.new)) (Rose (F.longs files.old) (F.longs files.new))) }
 {
     match kind_of(f) {
         Kind::Command => Err(refusal(alloc, Code::E19, func_word(f))),
@@ -229,6 +237,7 @@ fn table_call<'a, F: Files, L: Ledger>(
     ensures misses { F.misses files.old ≤ F.misses files.new }
     ensures longs { F.longs files.old ≤ F.longs files.new }
     ensures write_faults { F.write_faults files.new ≡ F.write_faults files.old }
+    ensures cause { IfErr result (Blames (F.held files.old) (Rose (F.misses files.old) (F.misses files.new)) (Rose (F.longs files.old) (F.longs files.new))) }
 {
     match f {
         Func::DataTable => Ok(new_value(alloc, args)?),
@@ -242,6 +251,7 @@ fn table_call<'a, F: Files, L: Ledger>(
 fn new_value<'a>(alloc: Global, args: &[Arg]) -> Result<Given<'a>, EvalFail>
     ensures given { AnswersAs plain_given (data_table (map arg_meaning args.now)) result }
     ensures live { IfOk result (λ g. IsNew g.value) }
+    ensures own { IfErr result IsOwn }
 {
     Ok(quiet(Value::New(data_table(alloc, args)?)))
 }
@@ -262,6 +272,7 @@ fn file_value<'a, F: Files, L: Ledger>(
     ensures misses { F.misses files.old ≤ F.misses files.new }
     ensures longs { F.longs files.old ≤ F.longs files.new }
     ensures write_faults { F.write_faults files.new ≡ F.write_faults files.old }
+    ensures cause { IfErr result (Blames (F.held files.old) (Rose (F.misses files.old) (F.misses files.new)) (Rose (F.longs files.old) (F.longs files.new))) }
 {
     let name = named_file(alloc, argument(alloc, args, 0, Formal::File)?)?;
     let (table, warns) = file_table(alloc, files, name, steps)?;
@@ -288,6 +299,7 @@ fn copy_value<'a, F: Files, L: Ledger>(
     ensures misses { F.misses files.old ≤ F.misses files.new }
     ensures longs { F.longs files.old ≤ F.longs files.new }
     ensures write_faults { F.write_faults files.new ≡ F.write_faults files.old }
+    ensures cause { IfErr result (Blames (F.held files.old) (Rose (F.misses files.old) (F.misses files.new)) (Rose (F.longs files.old) (F.longs files.new))) }
 {
     match place(args, 0, Formal::Table) {
         Some(i) => match args.get(i) {
@@ -318,6 +330,7 @@ fn copy_of<'a, F: Files, L: Ledger>(
     ensures misses { F.misses files.old ≤ F.misses files.new }
     ensures longs { F.longs files.old ≤ F.longs files.new }
     ensures write_faults { F.write_faults files.new ≡ F.write_faults files.old }
+    ensures cause { IfErr result (Blames (F.held files.old) (Rose (F.misses files.old) (F.misses files.new)) (Rose (F.longs files.old) (F.longs files.new))) }
 {
     let given = value(alloc, e, heap, files, steps)?;
     let table = copied(alloc, wanted_table(alloc, &given.value, heap)?, steps)?;
@@ -326,7 +339,8 @@ fn copy_of<'a, F: Files, L: Ledger>(
 
 /// The name of a file, which is a text literal; anything else is E19 with `file`.
 pub fn named_file(alloc: Global, e: &Expr) -> Result<&str, EvalFail>
-    ensures { AnswersAs (λ s. s.now) (named_file (meaning e.now).form) result }
+    ensures answer { AnswersAs (λ s. s.now) (named_file (meaning e.now).form) result }
+    ensures own { IfErr result IsOwn }
 {
     match text_literal(e) {
         Some(name) => Ok(name),
