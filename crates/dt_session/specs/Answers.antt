@@ -5,16 +5,20 @@
 --   IsStopped line f e v r    the line of the fault f was put, or a first part of it
 --   LineCause line o w v e    what stands outside after the statement on a line ended early
 --   StmtsEnd xs s w now v r   how statements ended early
+--   Blames held m l e         where files tell nothing, e blames a file only where m, or l, holds
+--   IsOwn e                   a fault that blames no file that is read
 --   AnyRose a b c             one of three counts rose
 --   ReadsAs bytes s w P       the bytes are evaluated to an end of which P holds
 --   prepared_effect p         the effect that was prepared, plainly
 --   sent e lines              an effect's text and file, and these lines
 --   EndsAs bytes s w now v r  how the script of these bytes ended early
-use Rattle.std.specs.Prelude.{◌≡◌, ◌⊎◌, ℕ, List, Option, Some, Ok, Err, option_map}
+use Rattle.std.specs.Prelude.{◌≡◌, ◌⊎◌, ℕ, List, Option, IsNone, false, Some, Ok, Err, option_map}
+use Rattle.arg_bind.specs.Answers.{is_of_file}
 use Rattle.dt_base.specs.declared.fault.Fault.{Fault}
 use Rattle.dt_model.specs.State.{State}
 use Rattle.dt_tree.specs.declared.tree.Stmt.{Stmt}
-use Rattle.dt_world.specs.Told.{appended, AppendedPart}
+use Rattle.dt_world.specs.Told.{FileMap, appended, AppendedPart}
+use Rattle.stmt_value.specs.Answers.{cause_of}
 use Rattle.run_model.specs.Messages.{printed_fault}
 use Rattle.session_model.specs.Evaluation.{Step, End, Evaluates, IsCutOff, plain, Cut, sends}
 use Rattle.session_model.specs.World.{World, Pieces, Parted, after, pieces_of, fault_pieces}
@@ -102,3 +106,13 @@ StmtsCause xs s w now v r (NoMemory e) = Cut xs r.done r.line s w now v
 
 abbrev pub StmtsEnd : List Stmt → State → World → State → World → RunFail → Type 0
 StmtsEnd xs s w now v r = StmtsCause xs s w now v r r.cause
+
+-- Where files tell nothing, a file is told as absent, or as too long, only where that was so.
+abbrev pub Blames : Option FileMap → Type 0 → Type 0 → ExecFail → Type 0
+Blames held miss long (Stop f) = IsNone held → cause_of f.code miss long
+Blames held miss long _ = Unit {0}
+
+-- the fault, if it is one, blames no file that is read
+abbrev pub IsOwn : ExecFail → Type 0
+IsOwn (Stop f) = is_of_file f.code ≡ false
+IsOwn _ = Unit {0}

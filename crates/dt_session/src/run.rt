@@ -1,4 +1,5 @@
-ghost use Rattle.std.specs.Prelude.{◌≡◌, ◌≢◌, ◌≤◌, IfOk, IfErr, OnOk, OnErr, IsSome, IsErrOf, length};
+ghost use Rattle.std.specs.Prelude.{◌≡◌, ◌≢◌, ◌≤◌, IfOk, IfErr, OnOk, OnErr, false, IsSome, IsNone, IsErrOf, length};
+ghost use Rattle.arg_bind.specs.Answers.{is_of_file};
 ghost use Rattle.dt_world.specs.Causes.{Rose};
 ghost use Rattle.dt_world.specs.Told.{appended, AppendedPart};
 ghost use Rattle.run_model.specs.Messages.{printed_fault};
@@ -7,7 +8,7 @@ ghost use Rattle.session_model.specs.Statement.{step};
 ghost use Rattle.session_model.specs.World.{world, look};
 ghost use Rattle.dt_base.specs.declared.fault.Code.TheVariants.{E01};
 ghost use Rattle.session_model.specs.Value.{number_fault};
-ghost use Rattle.dt_session.specs.Answers.{AnyRose, IsStopped, LineCause, StmtsEnd, ReadsAs, EndsAs};
+ghost use Rattle.dt_session.specs.Answers.{AnyRose, Blames, IsOwn, IsStopped, LineCause, StmtsEnd, ReadsAs, EndsAs};
 ghost use Rattle.dt_session.specs.Refusals.{IsOnLine, IsRefusalOf, RefusalEnd};
 ghost use Rattle.dt_session.specs.Session.{state_of};
 
@@ -37,6 +38,7 @@ fn put_fault<E: Sink>(alloc: Global, line: u32, fault: &Fault, err: &mut E) -> R
 /// Why a statement ended early whose fault has this line: the fault, once its line is put.
 fn stopped<E: Sink>(alloc: Global, line: u32, fault: Fault, err: &mut E) -> ExecFail
     ensures put { IsStopped line fault (E.bytes err.old) (E.bytes err.new) result }
+    ensures own { is_of_file fault.code ≡ false → IsOwn result }
     ensures failed { result ≡ ExecFail.WriteFault → Rose (E.faults err.old) (E.faults err.new) }
     ensures faults { E.faults err.old ≤ E.faults err.new }
 {
@@ -59,11 +61,13 @@ fn run_line<F: Files, O: Sink, E: Sink, L: Ledger>(
     ensures done { IsSome (F.held files.old) → OnOk result (Did stmt.now.line (step (look (F.held files.old)) (state_of session.old) stmt.now) (state_of session.old) (state_of session.new) (world (F.held files.old) (O.bytes out.old) (E.bytes err.old)) (world (F.held files.new) (O.bytes out.new) (E.bytes err.new))) }
     ensures fails { IsSome (F.held files.old) → IfErr result (LineCause stmt.now.line (step (look (F.held files.old)) (state_of session.old) stmt.now) (world (F.held files.old) (O.bytes out.old) (E.bytes err.old)) (world (F.held files.new) (O.bytes out.new) (E.bytes err.new))) }
     ensures same { OnErr result (session.new.heap.held ≡ session.old.heap.held) }
+    ensures cause { IfErr result (Blames (F.held files.old) (Rose (F.misses files.old) (F.misses files.new)) (Rose (F.longs files.old) (F.longs files.new))) }
     ensures read { IsErrOf result ExecFail.ReadFault → Rose (F.read_faults files.old) (F.read_faults files.new) }
     ensures write { IsErrOf result ExecFail.WriteFault → AnyRose (Rose (O.faults out.old) (O.faults out.new)) (Rose (E.faults err.old) (E.faults err.new)) (Rose (F.write_faults files.old) (F.write_faults files.new)) }
     ensures counts { (O.faults out.old ≤ O.faults out.new) × (E.faults err.old ≤ E.faults err.new) × (F.write_faults files.old ≤ F.write_faults files.new) }
     ensures reads { (F.read_faults files.old ≤ F.read_faults files.new) × (F.misses files.old ≤ F.misses files.new) × (F.longs files.old ≤ F.longs files.new) }
     ensures told { IsSome (F.held files.old) → IsSome (F.held files.new) }
+    ensures untold { IsNone (F.held files.old) → IsNone (F.held files.new) }
     ensures options { session.new.options ≡ session.old.options }
 {
     match session.exec(stmt, files, out, err, steps) {
@@ -87,11 +91,13 @@ fn run_stmts<F: Files, O: Sink, E: Sink, L: Ledger>(
 ) -> Result<(), RunFail>
     ensures done { IsSome (F.held files.old) → OnOk result (IsEnd (plain stmts.now (state_of session.old) (world (F.held files.old) (O.bytes out.old) (E.bytes err.old)) 0) (state_of session.new) (world (F.held files.new) (O.bytes out.new) (E.bytes err.new))) }
     ensures ends { IsSome (F.held files.old) → IfErr result (StmtsEnd stmts.now (state_of session.old) (world (F.held files.old) (O.bytes out.old) (E.bytes err.old)) (state_of session.new) (world (F.held files.new) (O.bytes out.new) (E.bytes err.new))) }
+    ensures cause { IfErr result (λ r. Blames (F.held files.old) (Rose (F.misses files.old) (F.misses files.new)) (Rose (F.longs files.old) (F.longs files.new)) r.cause) }
     ensures read { IfErr result (λ r. r.cause ≡ ExecFail.ReadFault → Rose (F.read_faults files.old) (F.read_faults files.new)) }
     ensures write { IfErr result (λ r. r.cause ≡ ExecFail.WriteFault → AnyRose (Rose (O.faults out.old) (O.faults out.new)) (Rose (E.faults err.old) (E.faults err.new)) (Rose (F.write_faults files.old) (F.write_faults files.new))) }
     ensures counts { (O.faults out.old ≤ O.faults out.new) × (E.faults err.old ≤ E.faults err.new) × (F.write_faults files.old ≤ F.write_faults files.new) }
     ensures reads { (F.read_faults files.old ≤ F.read_faults files.new) × (F.misses files.old ≤ F.misses files.new) × (F.longs files.old ≤ F.longs files.new) }
     ensures told { IsSome (F.held files.old) → IsSome (F.held files.new) }
+    ensures untold { IsNone (F.held files.old) → IsNone (F.held files.new) }
     ensures options { session.new.options ≡ session.old.options }
 {
     let mut done: u64 = 0;
@@ -141,7 +147,8 @@ fn on_line(line: u32, fault: Result<Fault, AllocError>) -> Result<Refusal, Alloc
 
 /// How the fault of the reading is told.
 fn refusal_of(alloc: Global, fail: ParseFail) -> Result<Refusal, AllocError>
-    ensures { IfOk result (IsRefusalOf fail) }
+    ensures told { IfOk result (IsRefusalOf fail) }
+    ensures own { IfOk result (λ x. is_of_file x.fault.code ≡ false) }
 {
     match fail {
         ParseFail::NotUtf8 => on_line(0, Fault::of(alloc, Code::E18, "")),
@@ -155,6 +162,7 @@ fn refusal_of(alloc: Global, fail: ParseFail) -> Result<Refusal, AllocError>
 /// Why the script ended whose reading is refused: its fault, once its line is put.
 fn refused<E: Sink>(alloc: Global, fail: ParseFail, err: &mut E) -> RunFail
     ensures end { RefusalEnd fail (E.bytes err.old) (E.bytes err.new) result }
+    ensures own { IsOwn result.cause }
     ensures read { result.cause ≢ ExecFail.ReadFault }
     ensures write { result.cause ≡ ExecFail.WriteFault → Rose (E.faults err.old) (E.faults err.new) }
     ensures faults { E.faults err.old ≤ E.faults err.new }
@@ -190,11 +198,13 @@ pub fn run_script<F: Files, O: Sink, E: Sink, L: Ledger>(
     requires { length bytes.now ≤ 1048576 }
     ensures done { IsSome (F.held files.old) → OnOk result (ReadsAs bytes.now (state_of session.old) (world (F.held files.old) (O.bytes out.old) (E.bytes err.old)) (λ e. IsEnd e (state_of session.new) (world (F.held files.new) (O.bytes out.new) (E.bytes err.new)))) }
     ensures ends { IsSome (F.held files.old) → IfErr result (EndsAs bytes.now (state_of session.old) (world (F.held files.old) (O.bytes out.old) (E.bytes err.old)) (state_of session.new) (world (F.held files.new) (O.bytes out.new) (E.bytes err.new))) }
+    ensures cause { IfErr result (λ r. Blames (F.held files.old) (Rose (F.misses files.old) (F.misses files.new)) (Rose (F.longs files.old) (F.longs files.new)) r.cause) }
     ensures read { IfErr result (λ r. r.cause ≡ ExecFail.ReadFault → Rose (F.read_faults files.old) (F.read_faults files.new)) }
     ensures write { IfErr result (λ r. r.cause ≡ ExecFail.WriteFault → AnyRose (Rose (O.faults out.old) (O.faults out.new)) (Rose (E.faults err.old) (E.faults err.new)) (Rose (F.write_faults files.old) (F.write_faults files.new))) }
     ensures counts { (O.faults out.old ≤ O.faults out.new) × (E.faults err.old ≤ E.faults err.new) × (F.write_faults files.old ≤ F.write_faults files.new) }
     ensures reads { (F.read_faults files.old ≤ F.read_faults files.new) × (F.misses files.old ≤ F.misses files.new) × (F.longs files.old ≤ F.longs files.new) }
     ensures told { IsSome (F.held files.old) → IsSome (F.held files.new) }
+    ensures untold { IsNone (F.held files.old) → IsNone (F.held files.new) }
     ensures options { session.new.options ≡ session.old.options }
 {
     match parse(session.alloc(), bytes) {

@@ -1,4 +1,4 @@
-ghost use Rattle.std.specs.Prelude.{◌≡◌, ◌≤◌, IfOk, IfErr, OnOk, OnErr, IsSome, IsErrOf};
+ghost use Rattle.std.specs.Prelude.{◌≡◌, ◌≤◌, IfOk, IfErr, OnOk, OnErr, IsSome, IsNone, IsErrOf};
 ghost use Rattle.dt_model.specs.State.{empty_state};
 ghost use Rattle.dt_world.specs.Causes.{Rose};
 ghost use Rattle.run_model.specs.Messages.{printed_warns};
@@ -6,9 +6,10 @@ ghost use Rattle.session_model.specs.Evaluation.{Did};
 ghost use Rattle.session_model.specs.Statement.{step};
 ghost use Rattle.session_model.specs.World.{world, look};
 ghost use Rattle.stmt_effect.specs.Effects.{FitsIn};
+ghost use Rattle.stmt_value.specs.Answers as value;
 ghost use Rattle.stmt_value.specs.Answers.{Gives};
 ghost use Rattle.table_heap.specs.State as named;
-ghost use Rattle.dt_session.specs.Answers.{Refused, PutsNothing, AnyRose, prepared_effect};
+ghost use Rattle.dt_session.specs.Answers.{Refused, PutsNothing, AnyRose, Blames, prepared_effect};
 ghost use Rattle.dt_session.specs.Session.{state_of, both_on, IsAlike};
 
 use crate::fail::ExecFail;
@@ -78,6 +79,7 @@ fn prepare<F: Files, L: Ledger>(
     ensures fits { IfOk result (λ p. FitsIn heap.new p.effect.change) }
     ensures same { heap.new.held ≡ heap.old.held }
     ensures held { F.held files.new ≡ F.held files.old }
+    ensures cause { IfErr result (value.Blames (F.held files.old) (Rose (F.misses files.old) (F.misses files.new)) (Rose (F.longs files.old) (F.longs files.new))) }
     ensures failed { IsErrOf result ValueFail.ReadFault → Rose (F.read_faults files.old) (F.read_faults files.new) }
     ensures read_faults { F.read_faults files.old ≤ F.read_faults files.new }
     ensures misses { F.misses files.old ≤ F.misses files.new }
@@ -144,9 +146,11 @@ impl Session {
         ensures same { OnErr result (self.new.heap.held ≡ self.old.heap.held) }
         ensures options { self.new.options ≡ self.old.options }
         ensures nothing { IfErr result (PutsNothing (world (F.held files.old) (O.bytes out.old) (E.bytes err.old)) (world (F.held files.new) (O.bytes out.new) (E.bytes err.new))) }
+        ensures cause { IfErr result (Blames (F.held files.old) (Rose (F.misses files.old) (F.misses files.new)) (Rose (F.longs files.old) (F.longs files.new))) }
         ensures read { IsErrOf result ExecFail.ReadFault → Rose (F.read_faults files.old) (F.read_faults files.new) }
         ensures write { IsErrOf result ExecFail.WriteFault → AnyRose (Rose (O.faults out.old) (O.faults out.new)) (Rose (E.faults err.old) (E.faults err.new)) (Rose (F.write_faults files.old) (F.write_faults files.new)) }
         ensures told { IsSome (F.held files.old) → IsSome (F.held files.new) }
+        ensures untold { IsNone (F.held files.old) → IsNone (F.held files.new) }
         ensures counts { (O.faults out.old ≤ O.faults out.new) × (E.faults err.old ≤ E.faults err.new) × (F.write_faults files.old ≤ F.write_faults files.new) }
         ensures reads { (F.read_faults files.old ≤ F.read_faults files.new) × (F.misses files.old ≤ F.misses files.new) × (F.longs files.old ≤ F.longs files.new) }
     {
