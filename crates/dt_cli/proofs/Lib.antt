@@ -1,8 +1,2 @@
-pub mod Ends
-pub mod Forms
-pub mod Framings
-pub mod Grids
-pub mod Headers
-pub mod Rows
-pub mod Tables
-pub mod Taking
+pub mod Askings
+pub mod Takes
