@@ -1,2 +1,5 @@
 pub mod Askings
+pub mod Ends
+pub mod Files
+pub mod Refusals
 pub mod Takes
