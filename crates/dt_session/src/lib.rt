@@ -22,5 +22,5 @@ mod run;
 mod session;
 
 pub use fail::{ExecFail, RunFail};
-// pub use run::run_script;
-pub use session::{Options, Session};
+pub use run::run_script;
+pub use session::{Options, Session, alike};
