@@ -1,29 +1,24 @@
-//! The program `dtq`: it runs the script that its one word names.
+//! The program `dtq`: it runs the script that its words name, or only reads it.
 //!
-//! `run` is the whole program over any files and sinks; `main` calls it over those of the machine.
-//! A run reads the script and looks at its form (`script_form`), reads the CSV file that the script
-//! names, record by record (`records`, `header`, `grid`, `integer_file`), and prints its table. The
-//! text is put at once, when all of it is there, so a run that is refused prints nothing.
+//! - `run` is the whole program over any files and sinks; `main` calls it over those of the machine.
+//! - `words` reads the words by the crate `clap`, and has the law on plain words.
+//! - `check` reads a script and does no more; `telling` puts the lines that `run` itself tells.
 //!
-//! It stands on `dt_world` for the outside, on `dt_print` for the text, on `cell_text` for the
-//! spelling of integers, and on the crate `csv` for records.
+//! It stands on `dt_session` for scripts, on `dt_script` for `--check`, on `dt_world` for the outside
+//! and on `dt_print` for the lines of faults.
 //!
-//! It promises that what is put and the status are those of the plain evaluation, `Headline` in
-//! specs/Run, and that each answer that blames the outside comes only where a count of it rose.
-//!
-//! It costs one pass over the file. A cell takes 8 bytes, and one record is held at a time.
+//! It promises that the files, what is put and the status are those of the plain evaluation of the
+//! words, `Headline` in specs/Run; that the usage is told by the words alone; and that each answer
+//! that blames the outside comes only where a count of it rose.
 #![tactic(auto)]
 
 ghost use Rattle.std.specs.Prelude.{◌≡◌, ◌<◌};
 
-mod fail;
-mod grid;
-mod header;
-mod integer_file;
-mod records;
+mod check;
 mod run;
-mod script_form;
 mod status;
+mod telling;
+mod words;
 
 use crate::run::run;
 use crate::status::Status;
@@ -64,6 +59,3 @@ fn main(rt: HostRuntime) -> ExitCode {
     };
     ExitCode::from(run_real::<Brand>(&rt, &words, Blank::new(1)).number())
 }
-
-#[cfg(test)]
-mod tests;
