@@ -59,3 +59,6 @@ fn main(rt: HostRuntime) -> ExitCode {
     };
     ExitCode::from(run_real::<Brand>(&rt, &words, Blank::new(1)).number())
 }
+
+#[cfg(test)]
+mod tests;

@@ -21,8 +21,7 @@ pub struct Asked<'a> {
 /// `--check`. It does nothing; its contract is the law.
 pub fn takes_plain_words()
     ensures { TakesPlainWords }
-{
-}
+{}
 
 /// The words with the program's name before them, which the command wants first.
 pub fn named_words<'a>(alloc: Global, words: &'a [String]) -> Result<Vec<&'a str>, AllocError>
@@ -81,10 +80,7 @@ fn nothing_asked<'a>(error: &Error) -> Result<Option<Asked<'a>>, AllocError>
 
 /// What all the words ask for, the program's name being the first. It is nothing exactly where the
 /// command does not take them, or where they have no SCRIPT.
-pub fn asked_by<'a>(
-    alloc: Global,
-    words: &'a [&'a str],
-) -> Result<Option<Asked<'a>>, AllocError>
+pub fn asked_by<'a>(alloc: Global, words: &'a [&'a str]) -> Result<Option<Asked<'a>>, AllocError>
     ensures asked { IfOk result (λ o. option_map meant o ≡ all_asked (texts words.now)) }
     ensures lacks { IfOk result (λ o. IfNone o (LacksScript (texts words.now))) }
 {
