@@ -1,6 +1,7 @@
 ghost use Rattle.std.specs.Prelude.{◌≡◌, ◌<◌};
 
-use crate::fail::ExecFail;
+use crate::fail::{ExecFail, RunFail};
+use crate::run::run_script;
 use crate::session::Session;
 use dt_base::{Code, Steps};
 use dt_script::{Stmt, parse};
@@ -126,14 +127,67 @@ fn check_lives<L: Ledger, R: Abort>(rt: &R, alloc: Global, blank: Blank) -> Resu
     let want = [done(1, 0), done(1, 0), done(1, 0), done(1, 16), done(2, 16)];
     assert_eq!(rt; seen.as_slice(), want.as_slice());
     assert_eq!(rt; place.out.bytes(), PRINTED.as_bytes());
-    let seen = run_each(rt, alloc, &mut place, "rm(nosuch)\nrm(a)\nrm(c)\n", &mut steps)?;
-    let want = [refused(Code::E02, 2, 16), refused(Code::E02, 2, 16), done(1, 16)];
+    let seen = run_each(
+        rt,
+        alloc,
+        &mut place,
+        "rm(nosuch)\nrm(a)\nrm(c)\n",
+        &mut steps,
+    )?;
+    let want = [
+        refused(Code::E02, 2, 16),
+        refused(Code::E02, 2, 16),
+        done(1, 16),
+    ];
     assert_eq!(rt; seen.as_slice(), want.as_slice());
     assert_eq!(rt; place.err.bytes().len(), 0);
+    Ok(())
+}
+
+/// The line of a refused statement, how many were done before it, and how it ended.
+fn told(answer: Result<(), RunFail>) -> Option<(u32, u64, Answer)> {
+    match answer {
+        Ok(()) => None,
+        Err(RunFail { line, done, cause }) => Some((line, done, answer_of(Err(cause)))),
+    }
+}
+
+/// Its third statement is refused, on the second line.
+const STOPS: &str = "a <- data.table(v = 1L)\nb <- a; rm(nosuch)\nprint(b)\n";
+
+const NO_SUCH_NAME: &str = "Error E02 at line 2: unknown name 'nosuch'\n";
+
+/// A script ends at its first fault, whose line is put, and the statements before it stand.
+fn check_stop<L: Ledger, R: Abort>(rt: &R, alloc: Global, blank: Blank) -> Result<(), Fail>
+    requires name { blank.name ≡ L.name }
+    requires parts { blank.parts ≡ L.parts }
+    requires some { 0 < blank.parts }
+{
+    let mut steps = Steps::<L>::new(blank);
+    let mut place = new_place(alloc);
+    let bytes = STOPS.as_bytes();
+    assert!(rt; bytes.len() <= 1_048_576);
+    let answer = run_script(
+        &mut place.session,
+        bytes,
+        &mut place.files,
+        &mut place.out,
+        &mut place.err,
+        &mut steps,
+    );
+    assert_eq!(rt; told(answer), Some((2, 2, Answer::Refused(Code::E02))));
+    assert_eq!(rt; place.session.heap().live(), 1);
+    assert_eq!(rt; place.out.bytes().len(), 0);
+    assert_eq!(rt; place.err.bytes(), NO_SUCH_NAME.as_bytes());
     Ok(())
 }
 
 #[test]
 fn tables_live_as_long_as_their_names(rt: HostRuntime) -> Result<(), Fail> {
     check_lives::<Brand, HostRuntime>(&rt, rt.alloc(), Blank::new(1))
+}
+
+#[test]
+fn scripts_end_at_their_first_fault(rt: HostRuntime) -> Result<(), Fail> {
+    check_stop::<Brand, HostRuntime>(&rt, rt.alloc(), Blank::new(1))
 }
