@@ -20,6 +20,8 @@ mod finish;
 mod puts;
 mod run;
 mod session;
+#[cfg(test)]
+mod tests;
 
 pub use fail::{ExecFail, RunFail};
 pub use run::run_script;
