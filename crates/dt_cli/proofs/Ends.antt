@@ -1,5 +1,5 @@
 -- How a run ends, by what was put.
-use Rattle.std.proofs.Common.{◌≡◌, ◌⊎◌, ℕ, Bool, true, false, List, [], Option, Some, None, Result, Ok, Err, IsSome, refl, sym, ap, subst, ◌∙◌, inl, inr}
+use Rattle.std.proofs.Common.{◌≡◌, ℕ, Bool, true, false, List, [], Option, Some, None, Result, Ok, Err, refl, sym, ap, subst, inl, inr}
 use Rattle.dt_base.specs.declared.fault.Fault.{Fault}
 use Rattle.dt_model.specs.State.{State, empty_state}
 use Rattle.dt_session.specs.Answers.{ReadsAs, EndsAs, EndCause}
@@ -9,7 +9,7 @@ use Rattle.dt_session.specs.declared.fail.RunFail.{RunFail}
 use Rattle.dt_world.specs.Told.{FileMap, appended, AppendedPart}
 use Rattle.session_model.proofs.Parts.{appended_nothing, none_part, parted_none}
 use Rattle.session_model.specs.Evaluation.{End, Evaluates, IsEnd}
-use Rattle.session_model.specs.World.{World, Pieces, Parted, world, after}
+use Rattle.session_model.specs.World.{World, Parted, world, after}
 use Rattle.dt_cli.specs.Run.{Answers, AskedCut, AskedEnds, CheckCut, Checks, FileCut, RunCut, Runs, ScriptCut, Told, on_err, script_bytes, status_of}
 use Rattle.dt_cli.specs.Run.Checks.{reads, refuses}
 use Rattle.dt_cli.specs.Steps.{CheckedAs, PutAs, status_for}

@@ -1,5 +1,5 @@
 -- A run, by what the reading of its script answered.
-use Rattle.std.proofs.Common.{◌≡◌, ◌<◌, ◌≤◌, ℕ, Bool, List, Option, Some, None, Result, Ok, Err, IsSome, cond, nat_lt, length, refl, sym, subst, ap, ◌∙◌, le-ltb, lt-ltb, true, false}
+use Rattle.std.proofs.Common.{◌≡◌, ◌≤◌, ℕ, List, Option, Some, None, Result, Ok, Err, IsSome, nat_lt, length, refl, sym, subst, le-ltb, lt-ltb, true, false}
 use Rattle.std.specs.FinMap as finite
 use Rattle.dt_base.specs.declared.fault.Fault.{Fault}
 use Rattle.dt_world.specs.Told.{FileMap, IsFile, IsAbsent, IsLonger}

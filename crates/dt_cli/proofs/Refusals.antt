@@ -1,5 +1,5 @@
 -- Why a script is refused, as it is told.
-use Rattle.std.proofs.Common.{◌≡◌, ℕ, List, Option, refl, subst, ap₂}
+use Rattle.std.proofs.Common.{◌≡◌, ℕ, List, Option, refl, subst}
 use Rattle.dt_script.specs.Answers.{FailsAs, IsOnlyFault, fail_of}
 use Rattle.dt_script.specs.declared.bytes.ParseFail.{ParseFail}
 use Rattle.dt_script.specs.declared.bytes.ParseFail.TheVariants as fail

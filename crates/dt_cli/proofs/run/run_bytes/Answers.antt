@@ -1,5 +1,4 @@
 -- The script ran to its end, or ended early.
-use Rattle.std.proofs.Common.{refl}
 use Rattle.dt_cli.proofs.Ends.{ended_early, ran}
 use Rattle.dt_cli.proofs.run.run_bytes.Goals as goal
 

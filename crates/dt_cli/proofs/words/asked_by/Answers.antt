@@ -1,8 +1,7 @@
 -- The words were taken, or refused.
-use Rattle.std.proofs.Common.{◌≡◌, ◌∙◌}
 use Rattle.std.proofs.lemmas.Result.{IfOk-weaker}
 use Rattle.dt_cli.specs.Given.{texts}
-use Rattle.dt_cli.proofs.Askings.{refused_asks, refused_lacks, taken_asks}
+use Rattle.dt_cli.proofs.Askings.{refused_asks, refused_lacks}
 use Rattle.dt_cli.proofs.words.asked_by.Goals as goal
 
 pub returns-in-Err-clause-asked : goal.returns-in-Err-clause-asked

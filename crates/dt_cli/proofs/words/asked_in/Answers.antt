@@ -1,5 +1,5 @@
 -- What is asked for, by the two values that are read.
-use Rattle.std.proofs.Common.{Some, None, ◌∙◌, ap, sym}
+use Rattle.std.proofs.Common.{Some, None}
 use Rattle.clap.specs.Words.{found_of}
 use Rattle.dt_cli.proofs.Askings.{by_values}
 use Rattle.dt_cli.proofs.words.asked_in.Goals as goal

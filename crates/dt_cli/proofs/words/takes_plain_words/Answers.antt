@@ -1,5 +1,5 @@
 -- The law, by the word's first byte.
-use Rattle.std.proofs.Common.{List, [], ◌∷◌, ℕ}
+use Rattle.std.proofs.Common.{[], ◌∷◌}
 use Rattle.dt_cli.specs.Words.{TakesPlainWords}
 use Rattle.dt_cli.proofs.Takes.{alone, after_check}
 use Rattle.dt_cli.proofs.words.takes_plain_words.Goals as goal
