@@ -15,7 +15,9 @@
 
 
 
+mod extremes;
 mod missing;
+mod ranked;
 
 mod sums;
 mod truths;
@@ -23,6 +25,7 @@ mod valued;
 
 
 
+pub use extremes::{max, min};
 pub use sums::sum;
 pub use truths::{all, any};
 pub use valued::Valued;
