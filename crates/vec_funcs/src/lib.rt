@@ -13,18 +13,15 @@
 //! `last`, which touch one, and `length`, which touches none.
 #![tactic(auto)]
 
-
-
+mod ends;
 mod extremes;
 mod missing;
 mod ranked;
-
 mod sums;
 mod truths;
 mod valued;
 
-
-
+pub use ends::{first, last, length};
 pub use extremes::{max, min};
 pub use sums::sum;
 pub use truths::{all, any};
