@@ -117,7 +117,7 @@ module _ (ranked : Cell → Bool) (beats : Cell → Cell → Bool) (o : Picks ra
   unbeaten_here : (b : ℕ) → Unbeaten beats cells (length cells) b → is_unbeaten beats cells (cell_at cells b) ≡ true
   unbeaten_here b u =
       let none = list_any_none (λ x. beats x (cell_at cells b)) cells
-          (λ k d lt. ap (λ x. beats x (cell_at cells b)) (get_or_default cells k d is.Na lt) ∙ u.unbeaten k lt) in
+      (λ k d lt. ap (λ x. beats x (cell_at cells b)) (get_or_default cells k d is.Na lt) ∙ u.unbeaten k lt) in
       ap (λ v. not v && not (list_any (λ x. beats x (cell_at cells b)) cells)) u.known ∙ ap not none
 
   place_is : (b : ℕ) → Unbeaten beats cells (length cells) b → position_or_len (is_unbeaten beats cells) cells ≡ b

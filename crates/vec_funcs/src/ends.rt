@@ -65,11 +65,7 @@ fn last_column<L: Ledger>(
 /// It touches that cell.
 ///
 /// From `first` of data.table; docs/LANGUAGE.md, section "Functions".
-pub fn first<L: Ledger>(
-    alloc: Global,
-    x: &Column,
-    steps: &mut Steps<L>,
-) -> Result<Valued, EvalFail>
+pub fn first<L: Ledger>(alloc: Global, x: &Column, steps: &mut Steps<L>) -> Result<Valued, EvalFail>
     ensures answer { AnswersAs valued_of (first_value x.now.vector) result }
     ensures touches { steps.new ≡ steps.old + min 1 (length x.now.vector.cells) }
 {
@@ -87,11 +83,7 @@ pub fn first<L: Ledger>(
 /// It touches that cell.
 ///
 /// From `last` of data.table; docs/LANGUAGE.md, section "Functions".
-pub fn last<L: Ledger>(
-    alloc: Global,
-    x: &Column,
-    steps: &mut Steps<L>,
-) -> Result<Valued, EvalFail>
+pub fn last<L: Ledger>(alloc: Global, x: &Column, steps: &mut Steps<L>) -> Result<Valued, EvalFail>
     ensures answer { AnswersAs valued_of (last_value x.now.vector) result }
     ensures touches { steps.new ≡ steps.old + min 1 (length x.now.vector.cells) }
 {

@@ -129,12 +129,7 @@ fn extreme_words<A: Ranked, W: Target + Drop>(
 }
 
 /// The least or the greatest of the words of a column.
-fn extreme_of(
-    alloc: Global,
-    side: Side,
-    words: Words<'_>,
-    na_rm: bool,
-) -> Result<Valued, EvalFail>
+fn extreme_of(alloc: Global, side: Side, words: Words<'_>, na_rm: bool) -> Result<Valued, EvalFail>
     ensures { AnswersAs valued_of (extreme_value side na_rm (shown words.entry)) result }
 {
     match words {

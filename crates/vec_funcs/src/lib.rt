@@ -26,3 +26,6 @@ pub use extremes::{max, min};
 pub use sums::sum;
 pub use truths::{all, any};
 pub use valued::Valued;
+
+#[cfg(test)]
+mod tests;

@@ -1,5 +1,7 @@
-ghost use Rattle.std.specs.Prelude.{◌≡◌, ◌+◌, map, length};
+ghost use Rattle.std.specs.Prelude.{◌≡◌, ◌+◌, map, length, if◌then◌else◌};
 ghost use Rattle.std.specs.List.{list_any};
+ghost use Rattle.dt_base.specs.declared.cell.Cell.TheVariants as is;
+ghost use Rattle.dt_model.specs.Coercion.{is_na};
 ghost use Rattle.vector_model.specs.Functions.{is_true, is_false, any_cell, all_cell, any_value, all_value};
 ghost use Rattle.arg_bind.specs.Answers.{AnswersAs};
 ghost use Rattle.na_vector.specs.Words.{lgl_cell, lgl_vector, IsLglWord};
@@ -51,18 +53,21 @@ fn has_false(words: &[u8]) -> bool
     false
 }
 
+/// NA where some word is NA, else the other word.
+fn na_or(words: &[u8], other: u8) -> u8
+    requires { IsLglWord other }
+    ensures word { lgl_cell result ≡ (if list_any is_na (map lgl_cell words.now) then is.Na else lgl_cell other) }
+    ensures fine { IsLglWord result }
+{
+    if has_na(words) { NA_LGL } else { other }
+}
+
 /// The word of `any`.
 fn any_word(words: &[u8]) -> u8
     ensures word { lgl_cell result ≡ any_cell (map lgl_cell words.now) }
     ensures fine { IsLglWord result }
 {
-    if has_true(words) {
-        1
-    } else if has_na(words) {
-        NA_LGL
-    } else {
-        0
-    }
+    if has_true(words) { 1 } else { na_or(words, 0) }
 }
 
 /// The word of `all`.
@@ -70,13 +75,7 @@ fn all_word(words: &[u8]) -> u8
     ensures word { lgl_cell result ≡ all_cell (map lgl_cell words.now) }
     ensures fine { IsLglWord result }
 {
-    if has_false(words) {
-        0
-    } else if has_na(words) {
-        NA_LGL
-    } else {
-        1
-    }
+    if has_false(words) { 0 } else { na_or(words, 1) }
 }
 
 /// `any` of logical words.
@@ -121,11 +120,7 @@ fn all_of(alloc: Global, words: Words<'_>) -> Result<Valued, EvalFail>
 /// It touches each cell of the column once.
 ///
 /// From `any` of R; docs/LANGUAGE.md, section "Functions".
-pub fn any<L: Ledger>(
-    alloc: Global,
-    x: &Column,
-    steps: &mut Steps<L>,
-) -> Result<Valued, EvalFail>
+pub fn any<L: Ledger>(alloc: Global, x: &Column, steps: &mut Steps<L>) -> Result<Valued, EvalFail>
     ensures answer { AnswersAs valued_of (any_value x.now.vector) result }
     ensures touches { steps.new ≡ steps.old + length x.now.vector.cells }
 {
@@ -139,11 +134,7 @@ pub fn any<L: Ledger>(
 /// It touches each cell of the column once.
 ///
 /// From `all` of R; docs/LANGUAGE.md, section "Functions".
-pub fn all<L: Ledger>(
-    alloc: Global,
-    x: &Column,
-    steps: &mut Steps<L>,
-) -> Result<Valued, EvalFail>
+pub fn all<L: Ledger>(alloc: Global, x: &Column, steps: &mut Steps<L>) -> Result<Valued, EvalFail>
     ensures answer { AnswersAs valued_of (all_value x.now.vector) result }
     ensures touches { steps.new ≡ steps.old + length x.now.vector.cells }
 {

@@ -14,10 +14,11 @@ loop-p-preserved g c =
     let cells = map g.A.Word.cell c.args.words.now in
     let typed = typed_words (has_rank t) g.A.Word.cell g.met.A.Ranked.ranked c.args.words.now in
     let inside : c.loop-p.p < length cells = omega (arith, length-map c.args.words.now g.A.Word.cell) in
-    let P : Option ℕ → Type 0 = λ o. IsBest (beats c.args.side t) cells (c.loop-p.p + 1) o in
-    (c.after-best.ensures.within,
-     subst P (sym c.after-best.ensures.after)
-       (after_more (has_rank t) (beats c.args.side t) (picks c.args.side t) cells typed c.loop-p.p c.loop-p.best inside c.loop-p.invariant.1))
+    let P : Option ℕ → Type 0 = λ o. IsBest (beats c.args.side t) cells (c.loop-p.p + 1) o in (
+      c.after-best.ensures.within,
+      subst P (sym c.after-best.ensures.after)
+          (after_more (has_rank t) (beats c.args.side t) (picks c.args.side t) cells typed c.loop-p.p c.loop-p.best inside c.loop-p.invariant.1),
+    )
 
 -- no more words
 pub returns-clause-winner : goal.returns-clause-winner
