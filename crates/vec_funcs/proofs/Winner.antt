@@ -1,6 +1,6 @@
 -- The best of the first cells of a list, one cell after another, and of all of them.
-use Rattle.std.proofs.Common.{◌≡◌, ◌∙◌, ◌+◌, ◌<◌, ℕ, Bool, true, false, not, cond, ◌&&◌, List, length, map, All, Option, None, Some, refl, ap, sym, below_more, arith, if◌then◌else◌}
-use Rattle.std.specs.List.{list_any, find, position_or_len, slice_get}
+use Rattle.std.proofs.Common.{◌≡◌, ◌∙◌, ◌+◌, ◌<◌, ℕ, Bool, true, false, not, ◌&&◌, List, length, map, All, Option, None, Some, refl, ap, below_more, arith, if◌then◌else◌}
+use Rattle.std.specs.List.{list_any, position_or_len, slice_get}
 use Rattle.std.proofs.lemmas.List.{get_or_default}
 use Rattle.std.proofs.lemmas.List.Elements.{All-map}
 use Rattle.std.proofs.lemmas.List.Folds.{find_at, list_any_at, list_any_none}
@@ -11,7 +11,7 @@ use Rattle.dt_base.specs.declared.cell.Cell.TheVariants as is
 use Rattle.dt_model.specs.Coercion.{is_na}
 use Rattle.dt_model.specs.Vector.{cell_at}
 use Rattle.vector_model.specs.Functions.{is_unbeaten, winner}
-use Rattle.vec_funcs.specs.Sides.{standing, takes, after}
+use Rattle.vec_funcs.specs.Sides.{standing, after}
 use Rattle.vec_funcs.proofs.Orders.{Picks}
 
 -- the cell at b is not NA, none of the first i beats it, and it beats each one before it

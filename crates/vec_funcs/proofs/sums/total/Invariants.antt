@@ -1,4 +1,4 @@
-use Rattle.std.proofs.Common.{◌≡◌, ◌*◌, ◌^◌, map, drop, ℤ, pos, neg_ℤ, ◌+ℤ◌, ◌≤ℤ◌}
+use Rattle.std.proofs.Common.{◌≡◌, ◌*◌, ◌^◌, map, drop, pos, neg_ℤ, ◌+ℤ◌, ◌≤ℤ◌}
 use Rattle.vector_model.specs.Functions.{total}
 use Rattle.vec_funcs.proofs.sums.total.Given as goal
 
