@@ -36,51 +36,59 @@ not_false : (v : Bool) → (v ≡ false → v ≡ true) → v ≡ true
 not_false true h = refl
 not_false false h = h refl
 
-module _ (ranked : Cell → Bool) (beats : Cell → Cell → Bool) (o : Picks ranked beats) (cells : List Cell) (typed : All (λ c. ranked c ≡ not (is_na c)) cells) where
-  has_rank_at : (k : ℕ) → k < length cells → is_na (cell_at cells k) ≡ false → ranked (cell_at cells k) ≡ true
+module _ (ranked : Cell → Bool) (beats : Cell → Cell → Bool) (o : Picks ranked beats)
+    (cells : List Cell) (typed : All (λ c. ranked c ≡ not (is_na c)) cells) where
+  abbrev at : ℕ → Cell
+  at k = cell_at cells k
+
+  has_rank_at : (k : ℕ) → k < length cells → is_na (at k) ≡ false → ranked (at k) ≡ true
   has_rank_at k lt h = typed k is.Na lt ∙ ap not h
 
-  no_rank_at : (k : ℕ) → k < length cells → is_na (cell_at cells k) ≡ true → ranked (cell_at cells k) ≡ false
+  no_rank_at : (k : ℕ) → k < length cells → is_na (at k) ≡ true → ranked (at k) ≡ false
   no_rank_at k lt h = typed k is.Na lt ∙ ap not h
 
   beats_not_itself : (c : Cell) → beats c c ≡ false
   beats_not_itself c = not_both (beats c c) (o.one_way c c)
 
   -- what beats another cell is not NA
-  known_where_beats : (k : ℕ) (c : Cell) → k < length cells → beats (cell_at cells k) c ≡ true → is_na (cell_at cells k) ≡ false
+  known_where_beats : (k : ℕ) (c : Cell) → k < length cells → beats (at k) c ≡ true → is_na (at k) ≡ false
   known_where_beats k c lt h =
-      not_both (is_na (cell_at cells k)) (λ e. let no : beats (cell_at cells k) c ≡ false = o.beats_none (cell_at cells k) c (no_rank_at k lt e) in cc)
+      not_both (is_na (at k)) (λ e. let no : beats (at k) c ≡ false = o.beats_none (at k) c (no_rank_at k lt e) in cc)
 
   -- the first cell that is not NA
-  first_known : (i : ℕ) → i < length cells → ((k : ℕ) → k < i → is_na (cell_at cells k) ≡ true) → is_na (cell_at cells i) ≡ false → Unbeaten beats cells (i + 1) i
+  first_known : (i : ℕ) → i < length cells → ((k : ℕ) → k < i → is_na (at k) ≡ true) → is_na (at i) ≡ false →
+      Unbeaten beats cells (i + 1) i
   first_known i lt none h =
-      let P : ℕ → Type 0 = λ k. beats (cell_at cells k) (cell_at cells i) ≡ false in
+      let P : ℕ → Type 0 = λ k. beats (at k) (at i) ≡ false in
       record {
         within = omega arith;
         known = h;
-        unbeaten = below_more P i (λ k d. o.beats_none (cell_at cells k) (cell_at cells i) (no_rank_at k (omega arith) (none k d))) (beats_not_itself (cell_at cells i));
-        first = λ k d e. (let no : is_na (cell_at cells k) ≡ true = none k d in cc);
+        unbeaten = below_more P i
+            (λ k d. o.beats_none (at k) (at i) (no_rank_at k (omega arith) (none k d)))
+            (beats_not_itself (at i));
+        first = λ k d e. (let no : is_na (at k) ≡ true = none k d in cc);
       }
 
   -- the cell at i beats the best so far
-  better : (i b : ℕ) → i < length cells → Unbeaten beats cells i b → beats (cell_at cells i) (cell_at cells b) ≡ true → Unbeaten beats cells (i + 1) i
+  better : (i b : ℕ) → i < length cells → Unbeaten beats cells i b → beats (at i) (at b) ≡ true → Unbeaten beats cells (i + 1) i
   better i b lt u h =
-      let P : ℕ → Type 0 = λ k. beats (cell_at cells k) (cell_at cells i) ≡ false in
+      let P : ℕ → Type 0 = λ k. beats (at k) (at i) ≡ false in
       let in_list : b < length cells = omega (arith, u.within) in
       record {
         within = omega arith;
-        known = known_where_beats i (cell_at cells b) lt h;
+        known = known_where_beats i (at b) lt h;
         unbeaten = below_more P i
-            (λ k d. o.chain (cell_at cells k) (cell_at cells b) (cell_at cells i) (has_rank_at b in_list u.known) (u.unbeaten k d) (o.one_way (cell_at cells i) (cell_at cells b) h))
-            (beats_not_itself (cell_at cells i));
-        first = λ k d e. not_false (beats (cell_at cells i) (cell_at cells k))
-            (λ f. let no : beats (cell_at cells i) (cell_at cells b) ≡ false = o.chain (cell_at cells i) (cell_at cells k) (cell_at cells b) (has_rank_at k (omega arith) e) f (u.unbeaten k d) in cc);
+            (λ k d. o.chain (at k) (at b) (at i) (has_rank_at b in_list u.known) (u.unbeaten k d) (o.one_way (at i) (at b) h))
+            (beats_not_itself (at i));
+        first = λ k d e. not_false (beats (at i) (at k))
+            (λ f. let no : beats (at i) (at b) ≡ false =
+            o.chain (at i) (at k) (at b) (has_rank_at k (omega arith) e) f (u.unbeaten k d) in cc);
       }
 
   -- it does not
-  no_better : (i b : ℕ) → Unbeaten beats cells i b → beats (cell_at cells i) (cell_at cells b) ≡ false → Unbeaten beats cells (i + 1) b
+  no_better : (i b : ℕ) → Unbeaten beats cells i b → beats (at i) (at b) ≡ false → Unbeaten beats cells (i + 1) b
   no_better i b u h =
-      let P : ℕ → Type 0 = λ k. beats (cell_at cells k) (cell_at cells b) ≡ false in
+      let P : ℕ → Type 0 = λ k. beats (at k) (at b) ≡ false in
       record {
         within = omega (arith, u.within);
         known = u.known;
@@ -89,17 +97,20 @@ module _ (ranked : Cell → Bool) (beats : Cell → Cell → Bool) (o : Picks ra
       }
 
   -- one more cell, by the test of the code
-  more_none : (i : ℕ) (v : Bool) → i < length cells → ((k : ℕ) → k < i → is_na (cell_at cells k) ≡ true) → is_na (cell_at cells i) ≡ v → IsBest beats cells (i + 1) (if not v then Some i else None)
-  more_none i true lt none h = let P : ℕ → Type 0 = λ k. is_na (cell_at cells k) ≡ true in below_more P i none h
+  more_none : (i : ℕ) (v : Bool) → i < length cells → ((k : ℕ) → k < i → is_na (at k) ≡ true) → is_na (at i) ≡ v →
+      IsBest beats cells (i + 1) (if not v then Some i else None)
+  more_none i true lt none h = let P : ℕ → Type 0 = λ k. is_na (at k) ≡ true in below_more P i none h
   more_none i false lt none h = first_known i lt none h
 
-  more_some : (i b : ℕ) (v : Bool) → i < length cells → Unbeaten beats cells i b → beats (cell_at cells i) (cell_at cells b) ≡ v → IsBest beats cells (i + 1) (if v then Some i else Some b)
+  more_some : (i b : ℕ) (v : Bool) → i < length cells → Unbeaten beats cells i b → beats (at i) (at b) ≡ v →
+      IsBest beats cells (i + 1) (if v then Some i else Some b)
   more_some i b true lt u h = better i b lt u h
   more_some i b false lt u h = no_better i b u h
 
-  pub after_more : (i : ℕ) (best : Option ℕ) → i < length cells → IsBest beats cells i best → IsBest beats cells (i + 1) (after beats cells i best)
-  after_more i None lt h = more_none i (is_na (cell_at cells i)) lt h refl
-  after_more i (Some b) lt h = more_some i b (beats (cell_at cells i) (cell_at cells b)) lt h refl
+  pub after_more : (i : ℕ) (best : Option ℕ) → i < length cells → IsBest beats cells i best →
+      IsBest beats cells (i + 1) (after beats cells i best)
+  after_more i None lt h = more_none i (is_na (at i)) lt h refl
+  after_more i (Some b) lt h = more_some i b (beats (at i) (at b)) lt h refl
 
   -- ---- The best of all cells
 
@@ -107,38 +118,41 @@ module _ (ranked : Cell → Bool) (beats : Cell → Cell → Bool) (o : Picks ra
   na_is_beaten c h = ap (λ v. not v && not (list_any (λ d. beats d c) cells)) h
 
   -- a cell before the best one is NA, or is beaten by it
-  beaten_before : (b k : ℕ) (v : Bool) → b < length cells → Unbeaten beats cells (length cells) b → k < b → is_na (cell_at cells k) ≡ v → is_unbeaten beats cells (cell_at cells k) ≡ false
-  beaten_before b k true lt u d h = na_is_beaten (cell_at cells k) h
+  beaten_before : (b k : ℕ) (v : Bool) → b < length cells → Unbeaten beats cells (length cells) b → k < b →
+      is_na (at k) ≡ v → is_unbeaten beats cells (at k) ≡ false
+  beaten_before b k true lt u d h = na_is_beaten (at k) h
   beaten_before b k false lt u d h =
-      let found = list_any_at (λ x. beats x (cell_at cells k)) cells b is.Na lt (u.first k d h) in
-      ap (λ v. not v && not (list_any (λ x. beats x (cell_at cells k)) cells)) h ∙ ap not found
+      let found = list_any_at (λ x. beats x (at k)) cells b is.Na lt (u.first k d h) in
+      ap (λ v. not v && not (list_any (λ x. beats x (at k)) cells)) h ∙ ap not found
 
   -- the best one is not
-  unbeaten_here : (b : ℕ) → Unbeaten beats cells (length cells) b → is_unbeaten beats cells (cell_at cells b) ≡ true
+  unbeaten_here : (b : ℕ) → Unbeaten beats cells (length cells) b → is_unbeaten beats cells (at b) ≡ true
   unbeaten_here b u =
-      let none = list_any_none (λ x. beats x (cell_at cells b)) cells
-      (λ k d lt. ap (λ x. beats x (cell_at cells b)) (get_or_default cells k d is.Na lt) ∙ u.unbeaten k lt) in
-      ap (λ v. not v && not (list_any (λ x. beats x (cell_at cells b)) cells)) u.known ∙ ap not none
+      let none = list_any_none (λ x. beats x (at b)) cells
+      (λ k d lt. ap (λ x. beats x (at b)) (get_or_default cells k d is.Na lt) ∙ u.unbeaten k lt) in
+      ap (λ v. not v && not (list_any (λ x. beats x (at b)) cells)) u.known ∙ ap not none
 
   place_is : (b : ℕ) → Unbeaten beats cells (length cells) b → position_or_len (is_unbeaten beats cells) cells ≡ b
   place_is b u =
       position_or_len_is (is_unbeaten beats cells) cells b is.Na (omega (arith, u.within))
-      (λ k d. beaten_before b k (is_na (cell_at cells k)) u.within u d refl)
+      (λ k d. beaten_before b k (is_na (at k)) u.within u d refl)
       (λ lt. unbeaten_here b u)
 
-  no_place : ((k : ℕ) → k < length cells → is_na (cell_at cells k) ≡ true) → position_or_len (is_unbeaten beats cells) cells ≡ length cells
+  no_place : ((k : ℕ) → k < length cells → is_na (at k) ≡ true) → position_or_len (is_unbeaten beats cells) cells ≡ length cells
   no_place none =
       position_or_len_is (is_unbeaten beats cells) cells (length cells) is.Na (omega arith)
-      (λ k d. na_is_beaten (cell_at cells k) (none k d))
+      (λ k d. na_is_beaten (at k) (none k d))
       (λ lt. absurd (omega arith))
 
   -- it is the winner
   pub found : (best : Option ℕ) → IsBest beats cells (length cells) best → winner beats cells ≡ standing cells best
   found None none =
-      find_at (is_unbeaten beats cells) cells ∙ ap (slice_get cells) (no_place none) ∙ slice_get_past cells (length cells) (omega arith)
+      find_at (is_unbeaten beats cells) cells ∙ ap (slice_get cells) (no_place none)
+      ∙ slice_get_past cells (length cells) (omega arith)
   found (Some b) u =
       find_at (is_unbeaten beats cells) cells ∙ ap (slice_get cells) (place_is b u) ∙ slice_get-get_or cells b is.Na u.within
 
 -- each word has a rank unless it is NA
-pub typed_words : {X : Type 0} (ranked : Cell → Bool) (cell : X → Cell) → ((x : X) → ranked (cell x) ≡ not (is_na (cell x))) → (xs : List X) → All (λ c. ranked c ≡ not (is_na c)) (map cell xs)
+pub typed_words : {X : Type 0} (ranked : Cell → Bool) (cell : X → Cell) →
+    ((x : X) → ranked (cell x) ≡ not (is_na (cell x))) → (xs : List X) → All (λ c. ranked c ≡ not (is_na c)) (map cell xs)
 typed_words ranked cell h xs = All-map (λ c. ranked c ≡ not (is_na c)) cell xs (λ k d lt. h _)

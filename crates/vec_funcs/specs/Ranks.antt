@@ -18,11 +18,13 @@ has_rank _ c = is_some (number c)
 
 pub ranked_lgl : (b : ℕ) → has_rank ty.Int (lgl_cell b) ≡ not (is_na (lgl_cell b))
 ranked_lgl b =
-    elim (b == 2) as (λ v. has_rank ty.Int (cond v is.Na (is.Lgl (b == 1))) ≡ not (is_na (cond v is.Na (is.Lgl (b == 1))))) [ true ↦ refl | false ↦ refl ]
+    elim (b == 2) as (λ v. has_rank ty.Int (cond v is.Na (is.Lgl (b == 1))) ≡ not (is_na (cond v is.Na (is.Lgl (b == 1)))))
+    [ true ↦ refl | false ↦ refl ]
 
 pub ranked_int : (n : ℤ) → has_rank ty.Int (int_cell n) ≡ not (is_na (int_cell n))
 ranked_int n =
-    elim (int_eq n (negsuc (2 ^ 63 - 1))) as (λ v. has_rank ty.Int (cond v is.Na (is.Int n)) ≡ not (is_na (cond v is.Na (is.Int n)))) [ true ↦ refl | false ↦ refl ]
+    elim (int_eq n (negsuc (2 ^ 63 - 1))) as (λ v. has_rank ty.Int (cond v is.Na (is.Int n)) ≡ not (is_na (cond v is.Na (is.Int n))))
+    [ true ↦ refl | false ↦ refl ]
 
 pub ranked_text : (t : Option (List ℕ)) → has_rank ty.Chr (text_cell t) ≡ not (is_na (text_cell t))
 ranked_text None = refl

@@ -22,7 +22,8 @@ fn cell_column<L: Ledger>(
     steps: &mut Steps<L>,
 ) -> Result<Column, AllocError>
     requires { p < length x.now.vector.cells }
-    ensures cell { IfOk result (λ c. c.vector ≡ vector_from x.now.vector.kind (cell_at x.now.vector.cells p ∷ [])) }
+    ensures cell { IfOk result (λ c. c.vector ≡
+        vector_from x.now.vector.kind (cell_at x.now.vector.cells p ∷ [])) }
     ensures touches { steps.new ≡ steps.old + 1 }
 {
     x.gather(alloc, &[Some(p)], steps)
@@ -34,7 +35,8 @@ fn first_column<L: Ledger>(
     x: &Column,
     steps: &mut Steps<L>,
 ) -> Result<Column, AllocError>
-    ensures cells { IfOk result (λ c. c.vector ≡ vector_from x.now.vector.kind (take 1 x.now.vector.cells)) }
+    ensures cells { IfOk result (λ c. c.vector ≡
+        vector_from x.now.vector.kind (take 1 x.now.vector.cells)) }
     ensures touches { steps.new ≡ steps.old + min 1 (length x.now.vector.cells) }
 {
     if x.len() == 0 {

@@ -65,7 +65,8 @@ fn after<A: Ranked>(side: Side, words: &[A], p: usize, best: Option<usize>) -> O
 /// The place of the first word that no other beats, NA apart.
 fn winner<A: Ranked>(side: Side, words: &[A]) -> Option<usize>
     ensures within { IsWithin (length words.now) result }
-    ensures winner { winner (beats side (extreme_type A.kind)) (map A.cell words.now) ≡ standing (map A.cell words.now) result }
+    ensures winner { winner (beats side (extreme_type A.kind)) (map A.cell words.now) ≡
+        standing (map A.cell words.now) result }
 {
     let mut best: Option<usize> = None;
     for p in 0..words.len() {
@@ -120,7 +121,8 @@ fn extreme_words<A: Ranked, W: Target + Drop>(
 ) -> Result<Valued, EvalFail>
     requires { W.kind ≡ extreme_type A.kind }
     ensures { AnswersAs valued_of
-        (extreme_cells (beats side (extreme_type A.kind)) (extreme_type A.kind) na_rm (map A.cell words.now)) result }
+        (extreme_cells (beats side (extreme_type A.kind)) (extreme_type A.kind) na_rm
+        (map A.cell words.now)) result }
 {
     if meets_na(na_rm, words) {
         return one::<W>(alloc, W::na());

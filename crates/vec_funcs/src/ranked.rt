@@ -17,7 +17,8 @@ pub trait Ranked: Word {
         ensures { result ≡ is_before (extreme_type Self.kind) (Self.cell self.now) (Self.cell other.now) };
 
     /// Its cell is NA, or has a place in the order.
-    ghost ranked: { (x : Self) → has_rank (extreme_type Self.Word.kind) (Self.Word.cell x) ≡ not (is_na (Self.Word.cell x)) };
+    ghost ranked: { (x : Self) →
+        has_rank (extreme_type Self.Word.kind) (Self.Word.cell x) ≡ not (is_na (Self.Word.cell x)) };
 }
 
 /// Whether an integer is less than another one, where neither is NA.

@@ -56,7 +56,8 @@ fn has_false(words: &[u8]) -> bool
 /// NA where some word is NA, else the other word.
 fn na_or(words: &[u8], other: u8) -> u8
     requires { IsLglWord other }
-    ensures word { lgl_cell result ≡ (if list_any is_na (map lgl_cell words.now) then is.Na else lgl_cell other) }
+    ensures word { lgl_cell result ≡
+        (if list_any is_na (map lgl_cell words.now) then is.Na else lgl_cell other) }
     ensures fine { IsLglWord result }
 {
     if has_na(words) { NA_LGL } else { other }
