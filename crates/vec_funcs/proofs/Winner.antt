@@ -1,5 +1,5 @@
 -- The best of the first cells of a list, one cell after another, and of all of them.
-use Rattle.std.proofs.Common.{◌≡◌, ◌∙◌, ◌+◌, ◌<◌, ℕ, Bool, true, false, not, ◌&&◌, List, length, map, All, Option, None, Some, refl, ap, below_more, arith, if◌then◌else◌}
+use Rattle.std.proofs.Common.{◌≡◌, ◌∙◌, ◌+◌, ◌<◌, ℕ, Bool, true, false, not, ◌&&◌, List, length, map, All, Option, None, Some, refl, ap, sym, subst, below_more, arith, if◌then◌else◌}
 use Rattle.std.specs.List.{list_any, position_or_len, slice_get}
 use Rattle.std.proofs.lemmas.List.{get_or_default}
 use Rattle.std.proofs.lemmas.List.Elements.{All-map}
@@ -107,10 +107,16 @@ module _ (ranked : Cell → Bool) (beats : Cell → Cell → Bool) (o : Picks ra
   more_some i b true lt u h = better i b lt u h
   more_some i b false lt u h = no_better i b u h
 
-  pub after_more : (i : ℕ) (best : Option ℕ) → i < length cells → IsBest beats cells i best →
+  after_more : (i : ℕ) (best : Option ℕ) → i < length cells → IsBest beats cells i best →
       IsBest beats cells (i + 1) (after beats cells i best)
   after_more i None lt h = more_none i (is_na (at i)) lt h refl
   after_more i (Some b) lt h = more_some i b (beats (at i) (at b)) lt h refl
+
+  -- a loop's step
+  pub next_best : (i : ℕ) (best next : Option ℕ) → i < length cells → IsBest beats cells i best →
+      next ≡ after beats cells i best → IsBest beats cells (i + 1) next
+  next_best i best next lt h e =
+      let P : Option ℕ → Type 0 = λ o. IsBest beats cells (i + 1) o in subst P (sym e) (after_more i best lt h)
 
   -- ---- The best of all cells
 

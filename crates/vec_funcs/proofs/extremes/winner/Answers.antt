@@ -1,10 +1,10 @@
-use Rattle.std.proofs.Common.{◌≡◌, ◌+◌, ◌<◌, ℕ, Option, length, map, subst, sym, arith}
+use Rattle.std.proofs.Common.{◌≡◌, ◌<◌, ℕ, length, map, subst, arith}
 use Rattle.std.proofs.lemmas.List.{length-map}
 use Rattle.vector_model.specs.Functions.{extreme_type}
 use Rattle.vec_funcs.specs.Ranks.{has_rank}
 use Rattle.vec_funcs.specs.Sides.{beats}
 use Rattle.vec_funcs.proofs.Orders.{picks}
-use Rattle.vec_funcs.proofs.Winner.{IsBest, typed_words, after_more, found}
+use Rattle.vec_funcs.proofs.Winner.{IsBest, typed_words, next_best, found}
 use Rattle.vec_funcs.proofs.extremes.winner.Goals as goal
 
 -- one more word
@@ -13,11 +13,10 @@ loop-p-preserved g c =
     let t = extreme_type g.A.Word.kind in
     let cells = map g.A.Word.cell c.args.words.now in
     let typed = typed_words (has_rank t) g.A.Word.cell g.met.A.Ranked.ranked c.args.words.now in
-    let inside : c.loop-p.p < length cells = omega (arith, length-map c.args.words.now g.A.Word.cell) in
-    let P : Option ℕ → Type 0 = λ o. IsBest (beats c.args.side t) cells (c.loop-p.p + 1) o in (
+    let inside : c.loop-p.p < length cells = omega (arith, length-map c.args.words.now g.A.Word.cell) in (
       c.after-best.ensures.within,
-      subst P (sym c.after-best.ensures.after)
-          (after_more (has_rank t) (beats c.args.side t) (picks c.args.side t) cells typed c.loop-p.p c.loop-p.best inside c.loop-p.invariant.1),
+      next_best (has_rank t) (beats c.args.side t) (picks c.args.side t) cells typed
+          c.loop-p.p c.loop-p.best c.after-best.result inside c.loop-p.invariant.1 c.after-best.ensures.after,
     )
 
 -- no more words
