@@ -1,10 +1,8 @@
 ghost use Rattle.std.specs.Prelude.{◌≡◌, ◌+◌, ◌<◌, map, length};
-ghost use Rattle.dt_base.specs.declared.cell.Cell.TheVariants as is;
-ghost use Rattle.dt_base.specs.Warns.{no_warns, with_warn};
 ghost use Rattle.dt_model.specs.Vector.{IsWithin};
 ghost use Rattle.vector_model.specs.Functions.{extreme_type, winner, found_value, extreme_cells, min_value, max_value};
 ghost use Rattle.arg_bind.specs.Answers.{AnswersAs};
-ghost use Rattle.na_words.specs.Shown.{shown, IsShown};
+ghost use Rattle.na_words.specs.Shown.{shown};
 ghost use Rattle.vec_funcs.specs.Valued.{valued_of};
 
 use crate::missing::meets_na;
