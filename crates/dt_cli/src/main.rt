@@ -12,7 +12,7 @@
 //! that blames the outside comes only where a count of it rose.
 #![tactic(auto)]
 
-ghost use Rattle.std.specs.Prelude.{◌≡◌, ◌<◌};
+ghost use Rattle.std.specs.Prelude.{◌≡◌, ◌≢◌, ◌<◌};
 
 mod check;
 mod run;
@@ -25,6 +25,7 @@ use crate::status::Status;
 use dt_base::Steps;
 use dt_world::{RealFiles, RealOut};
 use std::env;
+use std::io::ErrorKind;
 use std::marker::Brand;
 use std::process::ExitCode;
 use std::sync::ledger::{Blank, Ledger};
@@ -49,9 +50,22 @@ fn run_real<L: Ledger>(rt: &HostRuntime, words: &[String], blank: Blank) -> Stat
     )
 }
 
+/// The status of a run whose words could not be had.
+fn wordless(kind: ErrorKind) -> Status
+    ensures memory { kind ≡ ErrorKind.OutOfMemory → result ≡ Status.NoMemory }
+    ensures other { kind ≢ ErrorKind.OutOfMemory → result ≡ Status.ReadFault }
+{
+    if kind == ErrorKind::OutOfMemory {
+        Status::NoMemory
+    } else {
+        Status::ReadFault
+    }
+}
+
 fn main(rt: HostRuntime) -> ExitCode {
-    let Ok(all) = env::args(&rt) else {
-        return ExitCode::from(Status::ReadFault.number());
+    let all = match env::args(&rt) {
+        Ok(all) => all,
+        Err(error) => return ExitCode::from(wordless(error.kind()).number()),
     };
     let words: Vec<String> = match all.skip(1).collect(rt.alloc()) {
         Ok(words) => words,
