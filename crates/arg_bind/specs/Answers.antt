@@ -2,7 +2,11 @@
 --   AnswersAs view o r   r is the answer of o, as view sees it, or want of memory
 --   Answers o r          r is the answer of o, or want of memory
 --   IsStop f e           e is the fault f, or want of memory
-use Rattle.std.specs.Prelude.{◌≡◌, Result, Ok, Err}
+--   is_of_file c         a fault of this code blames a file that is read: absent, or too long
+--   IsOwn e              e blames no such file
+use Rattle.std.specs.Prelude.{◌≡◌, Bool, true, false, Result, Ok, Err}
+use Rattle.dt_base.specs.declared.fault.Code.{Code}
+use Rattle.dt_base.specs.declared.fault.Code.TheVariants.{E15, E16}
 use Rattle.dt_base.specs.declared.fault.Fault.{Fault}
 use Rattle.arg_bind.specs.declared.fail.EvalFail.{EvalFail}
 use Rattle.arg_bind.specs.declared.fail.EvalFail.TheVariants.{Stop, NoMemory}
@@ -20,3 +24,14 @@ Answers o r = AnswersAs (λ x. x) o r
 abbrev pub IsStop : Fault → EvalFail → Type 0
 IsStop g (Stop f) = g ≡ f
 IsStop g (NoMemory e) = Unit {0}
+
+-- a fault of this code blames a file that is read: it is absent, or too long
+abbrev pub is_of_file : Code → Bool
+is_of_file E15 = true
+is_of_file E16 = true
+is_of_file _ = false
+
+-- the fault, if it is one, blames no file that is read
+abbrev pub IsOwn : EvalFail → Type 0
+IsOwn (Stop f) = is_of_file f.code ≡ false
+IsOwn (NoMemory e) = Unit {0}

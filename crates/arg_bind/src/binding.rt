@@ -1,7 +1,7 @@
-ghost use Rattle.std.specs.Prelude.{◌≡◌, ◌<◌, ◌==◌, map, length, is_none, nat_lt};
+ghost use Rattle.std.specs.Prelude.{◌≡◌, IfErr, ◌<◌, ◌==◌, map, length, is_none, nat_lt};
 ghost use Rattle.session_model.specs.Meaning.{arg_meaning, names_in};
 ghost use Rattle.session_model.specs.Binding.{free_count, unnamed_count, place_of, places, is_formal, is_bad, names_fine, missing_word, all_there, word_in, counted, bound_to_formals, bound};
-ghost use Rattle.arg_bind.specs.Answers.{Answers};
+ghost use Rattle.arg_bind.specs.Answers.{Answers, IsOwn};
 
 use crate::fail::{EvalFail, stop};
 use crate::places::{is_free_formal, is_unnamed, next, place, place_named};
@@ -73,7 +73,8 @@ fn word_of_name(a: &Arg) -> &str
 }
 
 fn check_names(alloc: Global, args: &[Arg], ps: &[Formal]) -> Result<(), EvalFail>
-    ensures { Answers (names_fine (names_in (map arg_meaning args.now)) ps.now 0 (names_in (map arg_meaning args.now))) result }
+    ensures answer { Answers (names_fine (names_in (map arg_meaning args.now)) ps.now 0 (names_in (map arg_meaning args.now))) result }
+    ensures own { IfErr result IsOwn }
 {
     for (i, a) in args.iter().enumerate() {
         if is_refused(args, ps, i, a) {
@@ -99,7 +100,8 @@ fn word_for(f: Func, p: Formal) -> &'static str
 
 fn check_there(alloc: Global, f: Func, args: &[Arg], ps: &[Formal]) -> Result<(), EvalFail>
     requires { length ps.now < 1000 }
-    ensures { Answers (all_there f (places (names_in (map arg_meaning args.now)) 0 ps.now)) result }
+    ensures answer { Answers (all_there f (places (names_in (map arg_meaning args.now)) 0 ps.now)) result }
+    ensures own { IfErr result IsOwn }
 {
     let mut before = 0;
     for p in ps {
@@ -112,7 +114,8 @@ fn check_there(alloc: Global, f: Func, args: &[Arg], ps: &[Formal]) -> Result<()
 }
 
 fn check_count(alloc: Global, f: Func, is_wrong: bool) -> Result<(), EvalFail>
-    ensures { Answers (counted f is_wrong) result }
+    ensures answer { Answers (counted f is_wrong) result }
+    ensures own { IfErr result IsOwn }
 {
     if is_wrong {
         return Err(stop(alloc, Code::E19, func_word(f)));
@@ -121,7 +124,8 @@ fn check_count(alloc: Global, f: Func, is_wrong: bool) -> Result<(), EvalFail>
 }
 
 fn bind_formals(alloc: Global, f: Func, args: &[Arg]) -> Result<(), EvalFail>
-    ensures { Answers (bound_to_formals f (names_in (map arg_meaning args.now))) result }
+    ensures answer { Answers (bound_to_formals f (names_in (map arg_meaning args.now))) result }
+    ensures own { IfErr result IsOwn }
 {
     let ps = formals(f);
     check_names(alloc, args, ps)?;
@@ -136,7 +140,8 @@ fn bind_formals(alloc: Global, f: Func, args: &[Arg]) -> Result<(), EvalFail>
 /// then too many arguments (E19 with the function's name). As columns: no argument at all (E19 with
 /// the function's name). dtq's own rule, docs/LANGUAGE.md, section "Calls".
 pub fn bind(alloc: Global, f: Func, args: &[Arg]) -> Result<(), EvalFail>
-    ensures { Answers (bound f (names_in (map arg_meaning args.now))) result }
+    ensures answer { Answers (bound f (names_in (map arg_meaning args.now))) result }
+    ensures own { IfErr result IsOwn }
 {
     match arity_of(f) {
         Arity::Fixed => bind_formals(alloc, f, args),

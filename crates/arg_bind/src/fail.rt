@@ -1,7 +1,9 @@
 ghost use Rattle.dt_base.specs.Fault.{fault};
-ghost use Rattle.arg_bind.specs.Answers.{IsStop};
+ghost use Rattle.session_model.specs.Value.{number_fault};
+ghost use Rattle.std.specs.Prelude.{◌≡◌, false};
+ghost use Rattle.arg_bind.specs.Answers.{IsStop, is_of_file, IsOwn};
 
-use dt_base::{Code, Fault};
+use dt_base::{Code, Fault, Text};
 use std::alloc::{AllocError, Global};
 
 /// Why an expression or a statement has no value: its first fault, or want of memory.
@@ -11,12 +13,40 @@ pub enum EvalFail {
     NoMemory(AllocError),
 }
 
+impl From<AllocError> for EvalFail {
+    ghost use Rattle.std.specs.Prelude.{◌≡◌};
+    ghost use Rattle.arg_bind.specs.declared.fail.EvalFail.TheVariants.{NoMemory};
+
+    ghost from_gives = { λ e f. f ≡ NoMemory e };
+
+    fn from(e: AllocError) -> EvalFail {
+        EvalFail::NoMemory(e)
+    }
+}
+
 /// The fault of this code that tells a name and no numbers, or want of memory for its text.
 pub fn stop(alloc: Global, code: Code, what: &str) -> EvalFail
-    ensures { IsStop (fault code what.now) result }
+    ensures fault { IsStop (fault code what.now) result }
+    ensures own { is_of_file code ≡ false → IsOwn result }
 {
     match Fault::of(alloc, code, what) {
         Ok(fault) => EvalFail::Stop(fault),
+        Err(error) => EvalFail::NoMemory(error),
+    }
+}
+
+/// The fault of this code that tells a number and no name, or want of memory.
+pub fn stop_number(alloc: Global, code: Code, n: u64) -> EvalFail
+    ensures fault { IsStop (number_fault code n) result }
+    ensures own { is_of_file code ≡ false → IsOwn result }
+{
+    match Text::make(alloc, "") {
+        Ok(what) => EvalFail::Stop(Fault {
+            code,
+            what,
+            n,
+            m: 0,
+        }),
         Err(error) => EvalFail::NoMemory(error),
     }
 }

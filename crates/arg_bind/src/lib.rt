@@ -15,7 +15,7 @@ mod fail;
 mod places;
 
 pub use binding::bind;
-pub use fail::{EvalFail, stop};
+pub use fail::{EvalFail, stop, stop_number};
 pub use places::{next, place};
 
 #[cfg(test)]

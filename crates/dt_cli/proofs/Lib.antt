@@ -1,8 +1,5 @@
+pub mod Askings
 pub mod Ends
-pub mod Forms
-pub mod Framings
-pub mod Grids
-pub mod Headers
-pub mod Rows
-pub mod Tables
-pub mod Taking
+pub mod Files
+pub mod Refusals
+pub mod Takes

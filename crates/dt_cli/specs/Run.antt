@@ -1,24 +1,30 @@
 -- What the program gives for its words and the files.
---   usage_line              the line that tells how the program is called
---   Ended                   the bytes put on `out` and on `err`, and the status
---   is_script_word word     the word names a script: it does not begin with `-`
---   script_word words       the script that the words name, if they do
---   whole files words       the plain evaluation of the words
---   World                   what the files, `out` and `err` hold, where they tell
---   after w e, Parted w e v     the world after all, or after a first part, of what is put
---   Answers e w v s         a run with status s did what the plain evaluation says
---   Planned held P          where the files tell, P holds of them
---   Headline held words w v s   the theorem on `run`
---   IsByWords words s       usage is told exactly by the words
---   StopCause               where the files tell nothing, what a stop tells
-use Rattle.std.specs.Prelude.{◌≡◌, ◌==◌, not, ℕ, Bool, true, false, if◌then◌else◌, List, [], ◌∷◌, Option, None, Some, Result, Ok, Err, codes}
+--   usage_line, usage          the line that tells how the program is called
+--   script_bytes files name    the bytes of the script of this name, or why it is not read
+--   Runs bytes w s v           the script of these bytes runs to an end of this status
+--   Checks bytes w s v         the script of these bytes is only read
+--   ScriptEnds, FileEnds       either of the two; of bytes, or of a script that may not be there
+--   Whole files words w s v    the plain evaluation of the words: it has this status
+--   RunCut, CheckCut, ScriptCut, FileCut, CutOff
+--                              the same where something outside failed
+--   Answers ends cut s v       which of both a status tells
+--   Headline held words w v s  the theorem on `run`
+--   IsByWords words s          usage is told exactly by the words
+-- In each w is the world before, and v the one that is left. The files are told wherever these
+-- speak.
+use Rattle.std.specs.Prelude.{◌≡◌, ◌⊎◌, ℕ, Bool, true, false, List, [], Option, None, Some, Result, Ok, Err, codes}
 use Rattle.std.specs.Option.{is_some}
 use Rattle.std.specs.FinMap as finite
-use Rattle.dt_base.specs.declared.fault.Code.TheVariants.{E15, E16}
 use Rattle.dt_base.specs.declared.fault.Fault.{Fault}
-use Rattle.dt_world.specs.Told.{FileMap, appended, AppendedPart}
-use Rattle.run_model.specs.FirstPath.{Look, Stop, script_run}
-use Rattle.run_model.specs.Messages.{printed_fault}
+use Rattle.dt_model.specs.State.{State, empty_state}
+use Rattle.dt_tree.specs.declared.fault.ScriptFault.{ScriptFault}
+use Rattle.dt_tree.specs.declared.tree.Script.{Script}
+use Rattle.dt_world.specs.Told.{FileMap}
+use Rattle.run_model.specs.Reading.{IsReadAs, IsRefused}
+use Rattle.session_model.specs.Evaluation.{End, Evaluates, IsCutOff, line_of, script_fault}
+use Rattle.session_model.specs.Value.{file_bytes}
+use Rattle.session_model.specs.World.{World, Pieces, Parted, after, fault_pieces}
+use Rattle.dt_cli.specs.Words.{Asked, asked}
 use Rattle.dt_cli.specs.declared.status.Status.{Status}
 use Rattle.dt_cli.specs.declared.status.Status.TheVariants.{Done, Stopped, Usage, ReadFault, WriteFault, NoMemory}
 
@@ -26,85 +32,95 @@ use Rattle.dt_cli.specs.declared.status.Status.TheVariants.{Done, Stopped, Usage
 abbrev pub usage_line : List ℕ
 usage_line = codes "usage: dtq [--check] SCRIPT | dtq --gen N\n"
 
--- the bytes put on `out` and on `err`, and the status
-pub record Ended : Type 0 where
-  pub out : List ℕ
-  pub err : List ℕ
-  pub status : Status
+-- a line for `err`, and nothing else
+abbrev pub on_err : List ℕ → Pieces
+on_err line = record { text = []; file = None; lines = line }
 
--- a script that ran printed its text, and one that stopped told its fault
-abbrev pub script_end : Result (List ℕ) Stop → Ended
-script_end (Ok text) = record { out = text; err = []; status = Done }
-script_end (Err s) = record { out = []; err = printed_fault s.line s.fault; status = Stopped }
+abbrev pub usage : Pieces
+usage = on_err usage_line
 
--- other words than one script's name
-abbrev pub usage_end : Ended
-usage_end = record { out = []; err = usage_line; status = Usage }
+-- the bytes of a script, at most 1,048,576
+abbrev pub script_bytes : FileMap → List ℕ → Result (List ℕ) Fault
+script_bytes files name = file_bytes 1048576 name (finite.get files name)
 
--- The word names a script: it does not begin with `-`.
-abbrev pub is_script_word : List ℕ → Bool
-is_script_word [] = true
-is_script_word (b ∷ rest) = not (b == 45)
+-- a script that ended with a fault stopped
+abbrev pub status_of : Option (ℕ × Fault) → Status
+status_of None = Done
+status_of (Some f) = Stopped
 
--- the script that the words name, if they are one word that names one
-abbrev pub script_word : List (List ℕ) → Option (List ℕ)
-script_word [] = None
-script_word (word ∷ []) = if is_script_word word then Some word else None
-script_word (word ∷ other ∷ more) = None
+-- The script of these bytes is evaluated from the state without names, to an end of this status and
+-- this world.
+abbrev pub Runs : List ℕ → World → Status → World → Type 0
+Runs bytes w s v = (e : End) × Evaluates bytes empty_state w e × (s ≡ status_of e.fault) × (v ≡ e.world)
 
--- the script is run, and where the words name none the usage is told
-abbrev pub end_of : Look → Option (List ℕ) → Ended
-end_of files None = usage_end
-end_of files (Some word) = script_end (script_run files word)
+-- The bytes are a script, and nothing is put; or their first fault is told.
+pub data Checks (bytes : List ℕ) (w : World) (s : Status) (v : World) : Type 0 where
+  reads : (t : Script) → IsReadAs bytes t → s ≡ Done → v ≡ w → Checks bytes w s v
+  refuses : (f : ScriptFault) → IsRefused bytes f → s ≡ Stopped → v ≡ after w (fault_pieces (line_of f) (script_fault f)) → Checks bytes w s v
 
--- The plain evaluation of the words. No file changes.
-abbrev pub whole : Look → List (List ℕ) → Ended
-whole files words = end_of files (script_word words)
+-- the script of these bytes is only read, or run
+abbrev pub ScriptEnds : Bool → List ℕ → World → Status → World → Type 0
+ScriptEnds true = Checks
+ScriptEnds false = Runs
 
--- what the files, `out` and `err` hold, where they tell
-pub record World : Type 0 where
-  pub files : Option FileMap
-  pub out : Option (List ℕ)
-  pub err : Option (List ℕ)
+-- a script that is not read has its fault at line 0
+abbrev pub FileEnds : Bool → Result (List ℕ) Fault → World → Status → World → Type 0
+FileEnds check (Ok bytes) w s v = ScriptEnds check bytes w s v
+FileEnds check (Err f) w s v = (s ≡ Stopped) × (v ≡ after w (fault_pieces 0 f))
 
-abbrev pub world : Option FileMap → Option (List ℕ) → Option (List ℕ) → World
-world f o e = record { files = f; out = o; err = e }
+-- where nothing is asked for, the usage is told
+abbrev pub AskedEnds : FileMap → Option Asked → World → Status → World → Type 0
+AskedEnds files None w s v = (s ≡ Usage) × (v ≡ after w usage)
+AskedEnds files (Some a) w s v = FileEnds a.is_check (script_bytes files a.script) w s v
 
--- the world after all of it was put
-abbrev pub after : World → Ended → World
-after w e = record { files = w.files; out = appended w.out e.out; err = appended w.err e.err }
+-- the plain evaluation of the words
+abbrev pub Whole : FileMap → List (List ℕ) → World → Status → World → Type 0
+Whole files words = AskedEnds files (asked words)
 
--- the world after a first part of it was put
-pub record Parted (w : World) (e : Ended) (v : World) : Type 0 where
-  pub files : v.files ≡ w.files
-  pub out : AppendedPart w.out v.out e.out
-  pub err : AppendedPart w.err v.err e.err
+-- For one j the first j statements were done, and a first part of the next one; or nothing was.
+abbrev pub RunCut : List ℕ → World → World → Type 0
+RunCut bytes w v = (v ≡ w) ⊎ ((j : ℕ) × (line : ℕ) × (now : State) × IsCutOff bytes empty_state w j line now v)
 
--- the status and the world are those of the plain evaluation
-abbrev pub Exact : Ended → World → World → Status → Type 0
-Exact e w v s = (e.status ≡ s) × (v ≡ after w e)
+-- a first part of the fault's line was put; or nothing was
+abbrev pub CheckCut : List ℕ → World → World → Type 0
+CheckCut bytes w v = (v ≡ w) ⊎ ((f : ScriptFault) × IsRefused bytes f × Parted w (fault_pieces (line_of f) (script_fault f)) v)
 
--- A run that ended by itself did exactly what the plain evaluation says, and one that was cut off
--- put a first part of its bytes.
-abbrev pub Answers : Ended → World → World → Status → Type 0
-Answers e w v Done = Exact e w v Done
-Answers e w v Stopped = Exact e w v Stopped
-Answers e w v Usage = Exact e w v Usage
-Answers e w v ReadFault = Parted w e v
-Answers e w v WriteFault = Parted w e v
-Answers e w v NoMemory = Parted w e v
+abbrev pub ScriptCut : Bool → List ℕ → World → World → Type 0
+ScriptCut true = CheckCut
+ScriptCut false = RunCut
+
+abbrev pub FileCut : Bool → Result (List ℕ) Fault → World → World → Type 0
+FileCut check (Ok bytes) w v = ScriptCut check bytes w v
+FileCut check (Err f) w v = Parted w (fault_pieces 0 f) v
+
+abbrev pub AskedCut : FileMap → Option Asked → World → World → Type 0
+AskedCut files None w v = Parted w usage v
+AskedCut files (Some a) w v = FileCut a.is_check (script_bytes files a.script) w v
+
+-- what stands where something outside failed
+abbrev pub CutOff : FileMap → List (List ℕ) → World → World → Type 0
+CutOff files words = AskedCut files (asked words)
+
+-- A run that ended by itself ended so, and one that was cut off left this.
+abbrev pub Answers : (Status → World → Type 0) → (World → Type 0) → World → Status → Type 0
+Answers ends cut v Done = ends Done v
+Answers ends cut v Stopped = ends Stopped v
+Answers ends cut v Usage = ends Usage v
+Answers ends cut v ReadFault = cut v
+Answers ends cut v WriteFault = cut v
+Answers ends cut v NoMemory = cut v
 
 -- where the files tell, the fact holds of them
-abbrev pub Planned : Option FileMap → (Look → Type 0) → Type 0
-Planned None P = Unit {0}
-Planned (Some m) P = P (finite.get m)
+abbrev pub Told : Option FileMap → (FileMap → Type 0) → Type 0
+Told None P = Unit {0}
+Told (Some files) P = P files
 
 -- the theorem on `run`, at every list of words
 abbrev pub Headline : Option FileMap → List (List ℕ) → World → World → Status → Type 0
-Headline held words w v s = Planned held (λ files. Answers (whole files words) w v s)
+Headline held words w v s = Told held (λ files. Answers (Whole files words w) (CutOff files words w) v s)
 
--- The usage is told only where the words name no script, and where they name none nothing else is,
--- unless `err` failed or memory was wanting.
+-- The usage is told only where the words ask for nothing, and where they do nothing else is, unless
+-- `err` failed or memory was wanting.
 abbrev pub NeedsScript : Status → Bool → Type 0
 NeedsScript Done b = b ≡ true
 NeedsScript Stopped b = b ≡ true
@@ -113,13 +129,5 @@ NeedsScript ReadFault b = b ≡ true
 NeedsScript WriteFault b = Unit {0}
 NeedsScript NoMemory b = Unit {0}
 
--- usage is told exactly by the words
 abbrev pub IsByWords : List (List ℕ) → Status → Type 0
-IsByWords words s = NeedsScript s (is_some (script_word words))
-
--- Where the files tell nothing, a stop told some fault, and a file is said to be absent or too long
--- only where the files counted it.
-abbrev pub StopCause : Option FileMap → Option (List ℕ) → Option (List ℕ) → Type 0 → Type 0 → Type 0
-StopCause (Some m) old now miss long = Unit {0}
-StopCause None old now miss long =
-    (line : ℕ) × (f : Fault) × (now ≡ appended old (printed_fault line f)) × (f.code ≡ E15 → miss) × (f.code ≡ E16 → long)
+IsByWords words s = NeedsScript s (is_some (asked words))

@@ -1,35 +1,31 @@
-//! The program `dtq`: it runs the script that its one word names.
+//! The program `dtq`: it runs the script that its words name, or only reads it.
 //!
-//! `run` is the whole program over any files and sinks; `main` calls it over those of the machine.
-//! A run reads the script and looks at its form (`script_form`), reads the CSV file that the script
-//! names, record by record (`records`, `header`, `grid`, `integer_file`), and prints its table. The
-//! text is put at once, when all of it is there, so a run that is refused prints nothing.
+//! - `run` is the whole program over any files and sinks; `main` calls it over those of the machine.
+//! - `words` reads the words by the crate `clap`, and has the law on plain words.
+//! - `check` reads a script and does no more; `telling` puts the lines that `run` itself tells.
 //!
-//! It stands on `dt_world` for the outside, on `dt_print` for the text, on `cell_text` for the
-//! spelling of integers, and on the crate `csv` for records.
+//! It stands on `dt_session` for scripts, on `dt_script` for `--check`, on `dt_world` for the outside
+//! and on `dt_print` for the lines of faults.
 //!
-//! It promises that what is put and the status are those of the plain evaluation, `Headline` in
-//! specs/Run, and that each answer that blames the outside comes only where a count of it rose.
-//!
-//! It costs one pass over the file. A cell takes 8 bytes, and one record is held at a time.
+//! It promises that the files, what is put and the status are those of the plain evaluation of the
+//! words, `Headline` in specs/Run; that the usage is told by the words alone; and that each answer
+//! that blames the outside comes only where a count of it rose.
 #![tactic(auto)]
 
-ghost use Rattle.std.specs.Prelude.{◌≡◌, ◌<◌};
+ghost use Rattle.std.specs.Prelude.{◌≡◌, ◌≢◌, ◌<◌};
 
-mod fail;
-mod grid;
-mod header;
-mod integer_file;
-mod records;
+mod check;
 mod run;
-mod script_form;
 mod status;
+mod telling;
+mod words;
 
 use crate::run::run;
 use crate::status::Status;
 use dt_base::Steps;
 use dt_world::{RealFiles, RealOut};
 use std::env;
+use std::io::ErrorKind;
 use std::marker::Brand;
 use std::process::ExitCode;
 use std::sync::ledger::{Blank, Ledger};
@@ -54,9 +50,22 @@ fn run_real<L: Ledger>(rt: &HostRuntime, words: &[String], blank: Blank) -> Stat
     )
 }
 
+/// The status of a run whose words could not be had.
+fn wordless(kind: ErrorKind) -> Status
+    ensures memory { kind ≡ ErrorKind.OutOfMemory → result ≡ Status.NoMemory }
+    ensures other { kind ≢ ErrorKind.OutOfMemory → result ≡ Status.ReadFault }
+{
+    if kind == ErrorKind::OutOfMemory {
+        Status::NoMemory
+    } else {
+        Status::ReadFault
+    }
+}
+
 fn main(rt: HostRuntime) -> ExitCode {
-    let Ok(all) = env::args(&rt) else {
-        return ExitCode::from(Status::ReadFault.number());
+    let all = match env::args(&rt) {
+        Ok(all) => all,
+        Err(error) => return ExitCode::from(wordless(error.kind()).number()),
     };
     let words: Vec<String> = match all.skip(1).collect(rt.alloc()) {
         Ok(words) => words,

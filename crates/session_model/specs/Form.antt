@@ -1,12 +1,23 @@
 -- What an expression is as written, where an argument wants a form and not a value.
+--   literal_cell kind cell   the cell of a literal of this type
 --   Form          a literal, the negative of an integer literal, `NULL`, `Inf`, a bare name, or else
 --   negative f    the integer that `-` before this form writes, if it is an integer literal
 --   is_literal f  the form is a literal, with `-` before an integer allowed
 --   text_in f     the text of a text literal; NA is none
-use Rattle.std.specs.Prelude.{ℤ, neg_ℤ, Bool, true, false, List, ℕ, Option, None, Some}
+use Rattle.std.specs.Prelude.{ℤ, neg_ℤ, negsuc, ◌^◌, ◌-◌, Bool, true, false, cond, List, ℕ, Option, None, Some}
+use Rattle.std.specs.Ordering.{int_eq}
 use Rattle.dt_base.specs.declared.cell.Cell.{Cell}
 use Rattle.dt_base.specs.declared.cell.Cell.TheVariants as is
 use Rattle.dt_base.specs.declared.cell.ColType.{ColType}
+use Rattle.dt_base.specs.declared.cell.ColType.TheVariants as ty
+
+-- The cell of a literal. In a script each literal has a cell of its type. A tree that no script
+-- spells may hold another, which counts as NA; so does -2^63, which no cell is.
+abbrev pub literal_cell : ColType → Cell → Cell
+literal_cell ty.Lgl (is.Lgl b) = is.Lgl b
+literal_cell ty.Int (is.Int n) = cond (int_eq n (negsuc (2 ^ 63 - 1))) is.Na (is.Int n)
+literal_cell ty.Chr (is.Text t) = is.Text t
+literal_cell _ _ = is.Na
 
 -- an expression as written
 pub data Form : Type 0 where

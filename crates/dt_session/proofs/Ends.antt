@@ -1,0 +1,40 @@
+-- Statements that ended early, from how the one at hand did.
+use Rattle.std.proofs.Common.{◌≡◌, ◌<◌, ◌≤◌, ℕ, List, Option, IsNone, Some, length, get_or, refl, arith}
+use Rattle.dt_base.specs.declared.fault.Code.{Code}
+use Rattle.dt_base.specs.declared.fault.Code.TheVariants.{E15, E16}
+use Rattle.dt_base.specs.declared.fault.Fault.{Fault}
+use Rattle.dt_model.specs.State.{State}
+use Rattle.dt_tree.specs.declared.tree.Stmt.{Stmt}
+use Rattle.dt_world.specs.Causes.{Rose}
+use Rattle.dt_world.specs.Told.{FileMap}
+use Rattle.session_model.proofs.Parts.{rose_later}
+use Rattle.session_model.proofs.Runs.{Reached, cut_here, ends_refused}
+use Rattle.session_model.specs.Statement.{step}
+use Rattle.session_model.specs.World.{World, look}
+use Rattle.dt_session.specs.Answers.{LineCause, StmtsEnd, Blames}
+use Rattle.stmt_value.specs.Answers.{cause_of}
+use Rattle.dt_session.specs.declared.fail.ExecFail.{ExecFail}
+use Rattle.dt_session.specs.declared.fail.ExecFail.TheVariants.{Stop, ReadFault, WriteFault, NoMemory}
+
+-- the statement at i ended early
+pub line_ends : (xs : List Stmt) (s0 : State) (w0 : World) (i : ℕ) (l : Stmt) (s now : State) (w v : World) (n : ℕ) (cause : ExecFail) → Reached xs s0 w0 i s w n → i < length xs → l ≡ get_or xs i l → now ≡ s → LineCause l.line (step (look w.files) s l) w v cause → StmtsEnd xs s0 w0 now v (record { line = l.line; done = n; cause = cause })
+line_ends xs s0 w0 i l s now w v n (Stop f) r h e a c = ends_refused xs s0 w0 i l s now w v n f r h e a c.0 c.1
+line_ends xs s0 w0 i l s now w v n ReadFault r h e a c = cut_here xs s0 w0 i l s now w v n l.line r h e refl a c
+line_ends xs s0 w0 i l s now w v n WriteFault r h e a c = cut_here xs s0 w0 i l s now w v n l.line r h e refl a c
+line_ends xs s0 w0 i l s now w v n (NoMemory x) r h e a c = cut_here xs s0 w0 i l s now w v n l.line r h e refl a c
+
+-- a count that did not fall twice did not fall
+pub later : (a b c : ℕ) → a ≤ b → b ≤ c → a ≤ c
+later a b c p q = omega arith
+
+cause_later : (code : Code) (m0 m1 m2 l0 l1 l2 : ℕ) → m0 ≤ m1 → l0 ≤ l1 → cause_of code (Rose m1 m2) (Rose l1 l2) → cause_of code (Rose m0 m2) (Rose l0 l2)
+cause_later E15 m0 m1 m2 l0 l1 l2 p q r = rose_later m0 m1 m2 p r
+cause_later E16 m0 m1 m2 l0 l1 l2 p q r = rose_later l0 l1 l2 q r
+cause_later _ m0 m1 m2 l0 l1 l2 p q r = tt
+
+-- what a later statement blames on a file
+pub blames_later : (h h1 : Option FileMap) (m0 m1 m2 l0 l1 l2 : ℕ) (e : ExecFail) → (IsNone h → IsNone h1) → m0 ≤ m1 → l0 ≤ l1 → Blames h1 (Rose m1 m2) (Rose l1 l2) e → Blames h (Rose m0 m2) (Rose l0 l2) e
+blames_later h h1 m0 m1 m2 l0 l1 l2 (Stop f) u p q b = λ n. cause_later f.code m0 m1 m2 l0 l1 l2 p q (b (u n))
+blames_later h h1 m0 m1 m2 l0 l1 l2 ReadFault u p q b = tt
+blames_later h h1 m0 m1 m2 l0 l1 l2 WriteFault u p q b = tt
+blames_later h h1 m0 m1 m2 l0 l1 l2 (NoMemory x) u p q b = tt

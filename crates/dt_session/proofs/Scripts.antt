@@ -1,0 +1,89 @@
+-- A whole script, from the answers of its reading and of its statements.
+use Rattle.std.proofs.Common.{◌≡◌, ◌⊎◌, ℕ, List, [], Option, None, Some, Result, Ok, Err, OnOk, IfErr, refl, sym, ap, subst, ◌∙◌, inl, inr}
+use Rattle.dt_base.specs.declared.fault.Fault.{Fault}
+use Rattle.dt_model.specs.State.{State}
+use Rattle.dt_script.specs.Answers.{FailsAs, IsOnlyFault, fail_of}
+use Rattle.dt_script.specs.declared.bytes.ParseFail.{ParseFail}
+use Rattle.dt_script.specs.declared.bytes.ParseFail.TheVariants as fail
+use Rattle.dt_tree.specs.declared.fault.ScriptFault.{ScriptFault}
+use Rattle.dt_tree.specs.declared.fault.ScriptFault.TheVariants as fault
+use Rattle.dt_tree.specs.declared.tree.Script.{Script}
+use Rattle.dt_tree.specs.declared.tree.Stmt.{Stmt}
+use Rattle.dt_world.specs.Told.{appended, AppendedPart}
+use Rattle.run_model.specs.Messages.{printed_fault}
+use Rattle.run_model.specs.Reading.{IsReadAs, IsRefused}
+use Rattle.session_model.proofs.Parts.{none_part, told_all}
+use Rattle.session_model.specs.Evaluation.{End, plain, stopped, IsEnd, reads, refuses, in_statement, in_refusal, IsCutOff, script_fault, line_of}
+use Rattle.session_model.specs.World.{World, Parted, world, fault_pieces}
+use Rattle.dt_session.specs.Answers.{ReadsAs, EndCause, EndsAs, StmtsCause, StmtsEnd, IsStopped}
+use Rattle.dt_session.specs.Refusals.{IsRefusalOf, IsNoMemory, RefusalEnd}
+use Rattle.dt_session.specs.declared.fail.ExecFail.{ExecFail}
+use Rattle.dt_session.specs.declared.fail.ExecFail.TheVariants.{Stop, ReadFault, WriteFault, NoMemory}
+use Rattle.dt_session.specs.declared.fail.RunFail.{RunFail}
+use Rattle.dt_session.specs.declared.run.Refusal.{Refusal}
+
+-- all statements of a script that is read were done
+pub script_done : (bytes : List ℕ) (t : Script) (xs : List Stmt) (s now : State) (w v : World) (r : Result (Unit {0}) RunFail) → IsReadAs bytes t → xs ≡ t.stmts → OnOk r (IsEnd (plain xs s w 0) now v) → OnOk r (ReadsAs bytes s w (λ e. IsEnd e now v))
+script_done bytes t xs s now w v (Ok x) h e d = (plain t.stmts s w 0, reads t h, subst (λ ys. IsEnd (plain ys s w 0) now v) e d)
+script_done bytes t xs s now w v (Err x) h e d = tt
+
+cause_ends : (bytes : List ℕ) (t : Script) (s now : State) (w v : World) (r : RunFail) (cause : ExecFail) → IsReadAs bytes t → StmtsCause t.stmts s w now v r cause → EndCause bytes s w now v r cause
+cause_ends bytes t s now w v r (Stop f) h e = (plain t.stmts s w 0, reads t h, e)
+cause_ends bytes t s now w v r ReadFault h c = in_statement t h c
+cause_ends bytes t s now w v r WriteFault h c = in_statement t h c
+cause_ends bytes t s now w v r (NoMemory x) h c = inl (in_statement t h c)
+
+-- the statements of a script that is read ended early
+pub script_ends : (bytes : List ℕ) (t : Script) (xs : List Stmt) (s now : State) (w v : World) (r : Result (Unit {0}) RunFail) → IsReadAs bytes t → xs ≡ t.stmts → IfErr r (StmtsEnd xs s w now v) → IfErr r (EndsAs bytes s w now v)
+script_ends bytes t xs s now w v (Ok x) h e d = tt
+script_ends bytes t xs s now w v (Err x) h e d = cause_ends bytes t s now w v x x.cause h (subst (λ ys. StmtsCause ys s w now v x x.cause) e d)
+
+-- what is told of a refusal is the fault of the reading
+tells : (f : ScriptFault) (x : Refusal) → IsRefusalOf (fail_of f) x → x ≡ record { line = line_of f; fault = script_fault f }
+tells fault.NotUtf8 x h = h
+tells (fault.Syntax p) x h = h
+tells (fault.Number p) x h = h
+tells (fault.TooDeep p) x h = h
+
+only_fault : (bytes : List ℕ) (e : ParseFail) (x : Refusal) → IsRefusalOf e x → FailsAs bytes e → IsOnlyFault bytes e
+only_fault bytes fail.NotUtf8 x is h = h
+only_fault bytes (fail.Syntax l b) x is h = h
+only_fault bytes (fail.Number l) x is h = h
+only_fault bytes (fail.TooDeep l) x is h = h
+only_fault bytes (fail.NoMemory e) x is h = absurd is
+
+-- a first part of the fault's line was put
+line_part : (line : ℕ) (f : Fault) (w : World) (v : Option (List ℕ)) → AppendedPart w.err v (printed_fault line f) → Parted w (fault_pieces line f) (world w.files w.out v)
+line_part line f w v p = record { files = refl; out = none_part w.out w.out [] refl; err = p }
+
+refused_cause : (bytes : List ℕ) (s : State) (w : World) (f : ScriptFault) (v : Option (List ℕ)) (r : RunFail) (cause : ExecFail) → IsRefused bytes f → r.line ≡ line_of f → r.done ≡ 0 → IsStopped (line_of f) (script_fault f) w.err v cause → EndCause bytes s w s (world w.files w.out v) r cause
+refused_cause bytes s w f v r (Stop g) h l d p = (
+  stopped (line_of f) (script_fault f) s w 0,
+  refuses f h,
+  (λ i. record {
+    state = s;
+    world = sym (told_all (line_of f) (script_fault f) w w v refl p.1) i;
+    done = sym d i;
+    fault = Some (sym l i, sym p.0 i);
+  }),
+)
+refused_cause bytes s w f v r ReadFault h l d p = absurd p
+refused_cause bytes s w f v r WriteFault h l d p = in_refusal f h d l refl (line_part (line_of f) (script_fault f) w v p)
+refused_cause bytes s w f v r (NoMemory x) h l d p = inl (in_refusal f h d l refl (line_part (line_of f) (script_fault f) w v p))
+
+memory_cause : (bytes : List ℕ) (s : State) (w : World) (v : Option (List ℕ)) (r : RunFail) (cause : ExecFail) → IsNoMemory cause → r.line ≡ 0 → r.done ≡ 0 → v ≡ w.err → EndCause bytes s w s (world w.files w.out v) r cause
+memory_cause bytes s w v r (Stop g) m l d e = absurd m
+memory_cause bytes s w v r ReadFault m l d e = absurd m
+memory_cause bytes s w v r WriteFault m l d e = absurd m
+memory_cause bytes s w v r (NoMemory x) m l d e = inr (d, l, refl, (λ i. world w.files w.out (e i)))
+
+told_cause : (bytes : List ℕ) (s : State) (w : World) (f : ScriptFault) (x : Refusal) (v : Option (List ℕ)) (r : RunFail) → IsRefused bytes f → x ≡ record { line = line_of f; fault = script_fault f } → r.line ≡ x.line → r.done ≡ 0 → IsStopped x.line x.fault w.err v r.cause → EndCause bytes s w s (world w.files w.out v) r r.cause
+told_cause bytes s w f x v r h e l d p =
+    refused_cause bytes s w f v r r.cause h (l ∙ ap (λ y. y.line) e) d (subst (λ y. IsStopped y.line y.fault w.err v r.cause) e p)
+
+-- a script whose reading is refused
+pub refused_ends : (bytes : List ℕ) (s : State) (w : World) (e : ParseFail) (v : Option (List ℕ)) (r : RunFail) → FailsAs bytes e → RefusalEnd e w.err v r → EndsAs bytes s w s (world w.files w.out v) r
+refused_ends bytes s w e v r h (inl (x, is, l, d, p)) =
+    let only : IsOnlyFault bytes e = only_fault bytes e x is h in
+    told_cause bytes s w only.fault x v r only.refused (tells only.fault x (subst (λ y. IsRefusalOf y x) only.told is)) l d p
+refused_ends bytes s w e v r h (inr (m, l, d, same)) = memory_cause bytes s w v r r.cause m l d same

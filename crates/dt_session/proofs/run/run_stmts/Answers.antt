@@ -1,0 +1,32 @@
+use Rattle.std.proofs.Common.{◌≡◌, ◌+◌, ◌∙◌, ap}
+use Rattle.session_model.proofs.Runs.{reached_next}
+use Rattle.session_model.specs.World.{world}
+use Rattle.table_heap.specs.State.{state_in}
+use Rattle.dt_session.specs.Session.{state_of}
+use Rattle.dt_session.proofs.Ends.{line_ends, blames_later, later}
+use Rattle.dt_session.proofs.run.run_stmts.Goals as goal
+
+pub returns-in-Err-clause-ends : goal.returns-in-Err-clause-ends
+returns-in-Err-clause-ends g c told =
+    line_ends c.args.stmts.now _ _ c.loop-stmt.stmt-index c.stmt-item.result _ _ _ _ _ c.in-Err.cause
+    (c.loop-stmt.invariant.reached told)
+    c.loop-stmt-test.true
+    c.stmt-item.is
+    (ap state_in c.in-Err.ensures.same)
+    (c.in-Err.ensures.fails (c.loop-stmt.invariant.told told))
+
+pub returns-in-Err-clause-cause : goal.returns-in-Err-clause-cause
+returns-in-Err-clause-cause g c =
+    blames_later _ _ _ _ _ _ _ _ c.in-Err.cause c.loop-stmt.invariant.untold c.loop-stmt.invariant.reads.1 c.loop-stmt.invariant.reads.2 c.in-Err.ensures.cause
+
+pub loop-stmt-preserved : goal.loop-stmt-preserved
+loop-stmt-preserved g c =
+    record {
+      reached = λ told. reached_next c.args.stmts.now _ _ c.loop-stmt.stmt-index c.stmt-item.result _ _ _ _ _ (c.loop-stmt.invariant.reached told) c.loop-stmt-test.true c.stmt-item.is (c.in-Ok.ensures.done (c.loop-stmt.invariant.told told));
+      told = λ told. c.in-Ok.ensures.told (c.loop-stmt.invariant.told told);
+      untold = λ told. c.in-Ok.ensures.untold (c.loop-stmt.invariant.untold told);
+      done = ap (λ k. k + 1) c.loop-stmt.invariant.done;
+      counts = (later _ _ _ c.loop-stmt.invariant.counts.0 c.in-Ok.ensures.counts.0, later _ _ _ c.loop-stmt.invariant.counts.1 c.in-Ok.ensures.counts.1, later _ _ _ c.loop-stmt.invariant.counts.2 c.in-Ok.ensures.counts.2);
+      reads = (later _ _ _ c.loop-stmt.invariant.reads.0 c.in-Ok.ensures.reads.0, later _ _ _ c.loop-stmt.invariant.reads.1 c.in-Ok.ensures.reads.1, later _ _ _ c.loop-stmt.invariant.reads.2 c.in-Ok.ensures.reads.2);
+      options = c.in-Ok.ensures.options ∙ c.loop-stmt.invariant.options;
+    }

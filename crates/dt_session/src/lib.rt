@@ -1,0 +1,28 @@
+//! A session: names and tables, the statements that change them, and whole scripts.
+//!
+//! - `Session`: an empty one is `Session::new`. `exec` runs one statement in three parts: its effect
+//!   is computed; the memory for its change is taken; and then the text, the file and the warnings
+//!   are put, and the change is made, which cannot fail.
+//! - `run_script` reads the bytes of a script and runs its statements until the first fault.
+//! - `ExecFail` and `RunFail` say why a statement or a script ended early.
+//!
+//! It stands on `stmt_effect` for what statements do, on `table_heap` for names and tables, on
+//! `dt_script` for reading and on `dt_world` for the outside.
+//!
+//! It promises that the state, the bytes and the first fault are those of the definitions `step` and
+//! `plain`, where files tell what they hold; that a refused statement has changed nothing; that each
+//! answer that blames the outside comes only where the outside counted it; and what stands where a
+//! put or a write fails.
+#![tactic(auto)]
+
+mod fail;
+mod finish;
+mod puts;
+mod run;
+mod session;
+#[cfg(test)]
+mod tests;
+
+pub use fail::{ExecFail, RunFail};
+pub use run::run_script;
+pub use session::{Options, Session, alike};

@@ -1,0 +1,214 @@
+ghost use Rattle.std.specs.Prelude.{◌≡◌, ◌≢◌, ◌≤◌, IfOk, IfErr, OnOk, OnErr, false, IsSome, IsNone, IsErrOf, length};
+ghost use Rattle.arg_bind.specs.Answers.{is_of_file};
+ghost use Rattle.dt_world.specs.Causes.{Rose};
+ghost use Rattle.dt_world.specs.Told.{appended, AppendedPart};
+ghost use Rattle.run_model.specs.Messages.{printed_fault};
+ghost use Rattle.session_model.specs.Evaluation.{Did, IsEnd, plain};
+ghost use Rattle.session_model.specs.Statement.{step};
+ghost use Rattle.session_model.specs.World.{world, look};
+ghost use Rattle.dt_base.specs.declared.fault.Code.TheVariants.{E01};
+ghost use Rattle.session_model.specs.Value.{number_fault};
+ghost use Rattle.dt_session.specs.Answers.{AnyRose, Blames, IsOwn, IsStopped, LineCause, StmtsEnd, ReadsAs, EndsAs};
+ghost use Rattle.dt_session.specs.Refusals.{IsOnLine, IsRefusalOf, RefusalEnd};
+ghost use Rattle.dt_session.specs.Session.{state_of};
+
+use crate::fail::{ExecFail, RunFail};
+use crate::puts::put_piece;
+use crate::session::Session;
+use dt_base::{Code, Fault, Steps, Text};
+use dt_print::fault_line;
+use dt_script::{ParseFail, Stmt, parse};
+use dt_world::{Files, Sink, WriteFail};
+use std::alloc::{AllocError, Global};
+use std::sync::ledger::Ledger;
+
+/// Puts the line of a fault.
+fn put_fault<E: Sink>(alloc: Global, line: u32, fault: &Fault, err: &mut E) -> Result<(), WriteFail>
+    ensures ok { OnOk result (E.bytes err.new ≡ appended (E.bytes err.old) (printed_fault line fault.now)) }
+    ensures part { OnErr result (AppendedPart (E.bytes err.old) (E.bytes err.new) (printed_fault line fault.now)) }
+    ensures failed { IsErrOf result WriteFail.Failed → Rose (E.faults err.old) (E.faults err.new) }
+    ensures faults { E.faults err.old ≤ E.faults err.new }
+{
+    match fault_line(alloc, line, fault) {
+        Ok(text) => put_piece(err, &text),
+        Err(error) => Err(WriteFail::NoMemory(error)),
+    }
+}
+
+/// Why a statement ended early whose fault has this line: the fault, once its line is put.
+fn stopped<E: Sink>(alloc: Global, line: u32, fault: Fault, err: &mut E) -> ExecFail
+    ensures put { IsStopped line fault (E.bytes err.old) (E.bytes err.new) result }
+    ensures own { is_of_file fault.code ≡ false → IsOwn result }
+    ensures failed { result ≡ ExecFail.WriteFault → Rose (E.faults err.old) (E.faults err.new) }
+    ensures faults { E.faults err.old ≤ E.faults err.new }
+{
+    match put_fault(alloc, line, &fault, err) {
+        Ok(()) => ExecFail::Stop(fault),
+        Err(WriteFail::Failed) => ExecFail::WriteFault,
+        Err(WriteFail::NoMemory(error)) => ExecFail::NoMemory(error),
+    }
+}
+
+/// Runs one statement, and puts the line of its fault.
+fn run_line<F: Files, O: Sink, E: Sink, L: Ledger>(
+    session: &mut Session,
+    stmt: &Stmt,
+    files: &mut F,
+    out: &mut O,
+    err: &mut E,
+    steps: &mut Steps<L>,
+) -> Result<(), ExecFail>
+    ensures done { IsSome (F.held files.old) → OnOk result (Did stmt.now.line (step (look (F.held files.old)) (state_of session.old) stmt.now) (state_of session.old) (state_of session.new) (world (F.held files.old) (O.bytes out.old) (E.bytes err.old)) (world (F.held files.new) (O.bytes out.new) (E.bytes err.new))) }
+    ensures fails { IsSome (F.held files.old) → IfErr result (LineCause stmt.now.line (step (look (F.held files.old)) (state_of session.old) stmt.now) (world (F.held files.old) (O.bytes out.old) (E.bytes err.old)) (world (F.held files.new) (O.bytes out.new) (E.bytes err.new))) }
+    ensures same { OnErr result (session.new.heap.held ≡ session.old.heap.held) }
+    ensures cause { IfErr result (Blames (F.held files.old) (Rose (F.misses files.old) (F.misses files.new)) (Rose (F.longs files.old) (F.longs files.new))) }
+    ensures read { IsErrOf result ExecFail.ReadFault → Rose (F.read_faults files.old) (F.read_faults files.new) }
+    ensures write { IsErrOf result ExecFail.WriteFault → AnyRose (Rose (O.faults out.old) (O.faults out.new)) (Rose (E.faults err.old) (E.faults err.new)) (Rose (F.write_faults files.old) (F.write_faults files.new)) }
+    ensures counts { (O.faults out.old ≤ O.faults out.new) × (E.faults err.old ≤ E.faults err.new) × (F.write_faults files.old ≤ F.write_faults files.new) }
+    ensures reads { (F.read_faults files.old ≤ F.read_faults files.new) × (F.misses files.old ≤ F.misses files.new) × (F.longs files.old ≤ F.longs files.new) }
+    ensures told { IsSome (F.held files.old) → IsSome (F.held files.new) }
+    ensures untold { IsNone (F.held files.old) → IsNone (F.held files.new) }
+    ensures options { session.new.options ≡ session.old.options }
+{
+    match session.exec(stmt, files, out, err, steps) {
+        Ok(()) => Ok(()),
+        Err(ExecFail::Stop(fault)) => Err(stopped(session.alloc(), stmt.line, fault, err)),
+        Err(ExecFail::ReadFault) => Err(ExecFail::ReadFault),
+        Err(ExecFail::WriteFault) => Err(ExecFail::WriteFault),
+        Err(ExecFail::NoMemory(error)) => Err(ExecFail::NoMemory(error)),
+    }
+}
+
+/// Runs statements one after another until the first that is refused.
+#[tactic(auto, using(session_model::proofs::Runs::reached_first, session_model::proofs::Runs::reached_next, session_model::proofs::Runs::ends_done))]
+fn run_stmts<F: Files, O: Sink, E: Sink, L: Ledger>(
+    session: &mut Session,
+    stmts: &[Stmt],
+    files: &mut F,
+    out: &mut O,
+    err: &mut E,
+    steps: &mut Steps<L>,
+) -> Result<(), RunFail>
+    ensures done { IsSome (F.held files.old) → OnOk result (IsEnd (plain stmts.now (state_of session.old) (world (F.held files.old) (O.bytes out.old) (E.bytes err.old)) 0) (state_of session.new) (world (F.held files.new) (O.bytes out.new) (E.bytes err.new))) }
+    ensures ends { IsSome (F.held files.old) → IfErr result (StmtsEnd stmts.now (state_of session.old) (world (F.held files.old) (O.bytes out.old) (E.bytes err.old)) (state_of session.new) (world (F.held files.new) (O.bytes out.new) (E.bytes err.new))) }
+    ensures cause { IfErr result (λ r. Blames (F.held files.old) (Rose (F.misses files.old) (F.misses files.new)) (Rose (F.longs files.old) (F.longs files.new)) r.cause) }
+    ensures read { IfErr result (λ r. r.cause ≡ ExecFail.ReadFault → Rose (F.read_faults files.old) (F.read_faults files.new)) }
+    ensures write { IfErr result (λ r. r.cause ≡ ExecFail.WriteFault → AnyRose (Rose (O.faults out.old) (O.faults out.new)) (Rose (E.faults err.old) (E.faults err.new)) (Rose (F.write_faults files.old) (F.write_faults files.new))) }
+    ensures counts { (O.faults out.old ≤ O.faults out.new) × (E.faults err.old ≤ E.faults err.new) × (F.write_faults files.old ≤ F.write_faults files.new) }
+    ensures reads { (F.read_faults files.old ≤ F.read_faults files.new) × (F.misses files.old ≤ F.misses files.new) × (F.longs files.old ≤ F.longs files.new) }
+    ensures told { IsSome (F.held files.old) → IsSome (F.held files.new) }
+    ensures untold { IsNone (F.held files.old) → IsNone (F.held files.new) }
+    ensures options { session.new.options ≡ session.old.options }
+{
+    let mut done: u64 = 0;
+    for stmt in stmts {
+        match run_line(session, stmt, files, out, err, steps) {
+            Ok(()) => done += 1,
+            Err(cause) => {
+                return Err(RunFail {
+                    line: stmt.line,
+                    done,
+                    cause,
+                });
+            }
+        }
+    }
+    Ok(())
+}
+
+/// A fault of the reading of a script, with its line.
+#[derive(Drop)]
+struct Refusal {
+    line: u32,
+    fault: Fault,
+}
+
+/// The fault E01 at a byte of its line.
+fn syntax_fault(alloc: Global, byte: u32) -> Result<Fault, AllocError>
+    ensures { IfOk result (λ f. f ≡ number_fault E01 byte) }
+{
+    Ok(Fault {
+        code: Code::E01,
+        what: Text::make(alloc, "")?,
+        n: byte as u64,
+        m: 0,
+    })
+}
+
+/// A fault on its line, or want of memory.
+fn on_line(line: u32, fault: Result<Fault, AllocError>) -> Result<Refusal, AllocError>
+    ensures { IsOnLine line fault result }
+{
+    match fault {
+        Ok(fault) => Ok(Refusal { line, fault }),
+        Err(error) => Err(error),
+    }
+}
+
+/// How the fault of the reading is told.
+fn refusal_of(alloc: Global, fail: ParseFail) -> Result<Refusal, AllocError>
+    ensures told { IfOk result (IsRefusalOf fail) }
+    ensures own { IfOk result (λ x. is_of_file x.fault.code ≡ false) }
+{
+    match fail {
+        ParseFail::NotUtf8 => on_line(0, Fault::of(alloc, Code::E18, "")),
+        ParseFail::Syntax { line, byte } => on_line(line, syntax_fault(alloc, byte)),
+        ParseFail::Number { line } => on_line(line, Fault::of(alloc, Code::E22, "")),
+        ParseFail::TooDeep { line } => on_line(line, Fault::of(alloc, Code::E21, "")),
+        ParseFail::NoMemory(error) => Err(error),
+    }
+}
+
+/// Why the script ended whose reading is refused: its fault, once its line is put.
+fn refused<E: Sink>(alloc: Global, fail: ParseFail, err: &mut E) -> RunFail
+    ensures end { RefusalEnd fail (E.bytes err.old) (E.bytes err.new) result }
+    ensures own { IsOwn result.cause }
+    ensures read { result.cause ≢ ExecFail.ReadFault }
+    ensures write { result.cause ≡ ExecFail.WriteFault → Rose (E.faults err.old) (E.faults err.new) }
+    ensures faults { E.faults err.old ≤ E.faults err.new }
+{
+    match refusal_of(alloc, fail) {
+        Ok(Refusal { line, fault }) => RunFail {
+            line,
+            done: 0,
+            cause: stopped(alloc, line, fault, err),
+        },
+        Err(error) => RunFail {
+            line: 0,
+            done: 0,
+            cause: ExecFail::NoMemory(error),
+        },
+    }
+}
+
+/// Reads the bytes of a script, and runs its statements one after another until the first that is
+/// refused. The line of the fault is put on `err`.
+///
+/// There are at most 1,048,576 bytes. A script that is refused runs no statement: E18 with line 0,
+/// and E01, E21 and E22 with their own. When a statement is refused the session stands as after the
+/// ones before it, which `done` counts.
+pub fn run_script<F: Files, O: Sink, E: Sink, L: Ledger>(
+    session: &mut Session,
+    bytes: &[u8],
+    files: &mut F,
+    out: &mut O,
+    err: &mut E,
+    steps: &mut Steps<L>,
+) -> Result<(), RunFail>
+    requires { length bytes.now ≤ 1048576 }
+    ensures done { IsSome (F.held files.old) → OnOk result (ReadsAs bytes.now (state_of session.old) (world (F.held files.old) (O.bytes out.old) (E.bytes err.old)) (λ e. IsEnd e (state_of session.new) (world (F.held files.new) (O.bytes out.new) (E.bytes err.new)))) }
+    ensures ends { IsSome (F.held files.old) → IfErr result (EndsAs bytes.now (state_of session.old) (world (F.held files.old) (O.bytes out.old) (E.bytes err.old)) (state_of session.new) (world (F.held files.new) (O.bytes out.new) (E.bytes err.new))) }
+    ensures cause { IfErr result (λ r. Blames (F.held files.old) (Rose (F.misses files.old) (F.misses files.new)) (Rose (F.longs files.old) (F.longs files.new)) r.cause) }
+    ensures read { IfErr result (λ r. r.cause ≡ ExecFail.ReadFault → Rose (F.read_faults files.old) (F.read_faults files.new)) }
+    ensures write { IfErr result (λ r. r.cause ≡ ExecFail.WriteFault → AnyRose (Rose (O.faults out.old) (O.faults out.new)) (Rose (E.faults err.old) (E.faults err.new)) (Rose (F.write_faults files.old) (F.write_faults files.new))) }
+    ensures counts { (O.faults out.old ≤ O.faults out.new) × (E.faults err.old ≤ E.faults err.new) × (F.write_faults files.old ≤ F.write_faults files.new) }
+    ensures reads { (F.read_faults files.old ≤ F.read_faults files.new) × (F.misses files.old ≤ F.misses files.new) × (F.longs files.old ≤ F.longs files.new) }
+    ensures told { IsSome (F.held files.old) → IsSome (F.held files.new) }
+    ensures untold { IsNone (F.held files.old) → IsNone (F.held files.new) }
+    ensures options { session.new.options ≡ session.old.options }
+{
+    match parse(session.alloc(), bytes) {
+        Ok(script) => run_stmts(session, script.stmts.as_slice(), files, out, err, steps),
+        Err(fail) => Err(refused(session.alloc(), fail, err)),
+    }
+}

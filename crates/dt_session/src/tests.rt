@@ -1,0 +1,193 @@
+ghost use Rattle.std.specs.Prelude.{◌≡◌, ◌<◌};
+
+use crate::fail::{ExecFail, RunFail};
+use crate::run::run_script;
+use crate::session::Session;
+use dt_base::{Code, Steps};
+use dt_script::{Stmt, parse};
+use dt_world::{MemFiles, MemSink};
+use std::alloc::{AllocError, Global};
+use std::marker::Brand;
+use std::process::Abort;
+use std::sync::ledger::{Blank, Ledger};
+use std::test::Fail;
+
+/// A session over an empty folder in memory.
+#[derive(Drop)]
+struct Place {
+    session: Session,
+    files: MemFiles,
+    out: MemSink,
+    err: MemSink,
+}
+
+/// How a statement ended.
+#[derive(Clone, Copy, Debug, PartialEq, Eq)]
+enum Answer {
+    Done,
+    Refused(Code),
+    CutOff,
+}
+
+/// How a statement ended, how many tables live then, and how many bytes were put so far.
+#[derive(Clone, Copy, Debug, PartialEq, Eq)]
+struct Seen {
+    answer: Answer,
+    live: usize,
+    put: usize,
+}
+
+fn new_place(alloc: Global) -> Place {
+    Place {
+        session: Session::new(alloc),
+        files: MemFiles::new(alloc, Vec::new(alloc), Vec::new(alloc)),
+        out: MemSink::new(alloc, Vec::new(alloc)),
+        err: MemSink::new(alloc, Vec::new(alloc)),
+    }
+}
+
+fn answer_of(answer: Result<(), ExecFail>) -> Answer {
+    match answer {
+        Ok(()) => Answer::Done,
+        Err(ExecFail::Stop(fault)) => Answer::Refused(fault.code),
+        Err(ExecFail::ReadFault) | Err(ExecFail::WriteFault) => Answer::CutOff,
+        Err(ExecFail::NoMemory(_)) => Answer::CutOff,
+    }
+}
+
+/// Runs one statement, and tells what stands then.
+fn run_one<L: Ledger>(place: &mut Place, stmt: &Stmt, steps: &mut Steps<L>) -> Seen {
+    let answer = place.session.exec(
+        stmt,
+        &mut place.files,
+        &mut place.out,
+        &mut place.err,
+        steps,
+    );
+    Seen {
+        answer: answer_of(answer),
+        live: place.session.heap().live(),
+        put: place.out.bytes().len(),
+    }
+}
+
+/// Runs each statement of a script, also those behind one that is refused, and tells what stands
+/// after each; nothing for a text that is no script.
+fn run_each<L: Ledger, R: Abort>(
+    rt: &R,
+    alloc: Global,
+    place: &mut Place,
+    text: &str,
+    steps: &mut Steps<L>,
+) -> Result<Vec<Seen>, AllocError> {
+    let bytes = text.as_bytes();
+    assert!(rt; bytes.len() <= 1_048_576);
+    let mut seen = Vec::new(alloc);
+    let Ok(script) = parse(alloc, bytes) else {
+        return Ok(seen);
+    };
+    for stmt in script.stmts.as_slice() {
+        seen.push(run_one(place, stmt, steps))?;
+    }
+    Ok(seen)
+}
+
+/// A statement that was done.
+const fn done(live: usize, put: usize) -> Seen {
+    Seen {
+        answer: Answer::Done,
+        live,
+        put,
+    }
+}
+
+/// A statement that was refused.
+const fn refused(code: Code, live: usize, put: usize) -> Seen {
+    Seen {
+        answer: Answer::Refused(code),
+        live,
+        put,
+    }
+}
+
+const NAMES_AND_A_COPY: &str = "a <- data.table(v = 1L, \"q\")\nb <- a\nrm(a)\nb\nc <- copy(b)\n";
+
+const PRINTED: &str = "   v V2\n1: 1  q\n";
+
+/// A table lives as long as one name is bound to it, an alias makes none, and a copy makes one. A
+/// statement that is refused leaves as many as before, and puts nothing.
+fn check_lives<L: Ledger, R: Abort>(rt: &R, alloc: Global, blank: Blank) -> Result<(), Fail>
+    requires name { blank.name ≡ L.name }
+    requires parts { blank.parts ≡ L.parts }
+    requires some { 0 < blank.parts }
+{
+    let mut steps = Steps::<L>::new(blank);
+    let mut place = new_place(alloc);
+    let seen = run_each(rt, alloc, &mut place, NAMES_AND_A_COPY, &mut steps)?;
+    let want = [done(1, 0), done(1, 0), done(1, 0), done(1, 16), done(2, 16)];
+    assert_eq!(rt; seen.as_slice(), want.as_slice());
+    assert_eq!(rt; place.out.bytes(), PRINTED.as_bytes());
+    let seen = run_each(
+        rt,
+        alloc,
+        &mut place,
+        "rm(nosuch)\nrm(a)\nrm(c)\n",
+        &mut steps,
+    )?;
+    let want = [
+        refused(Code::E02, 2, 16),
+        refused(Code::E02, 2, 16),
+        done(1, 16),
+    ];
+    assert_eq!(rt; seen.as_slice(), want.as_slice());
+    assert_eq!(rt; place.err.bytes().len(), 0);
+    Ok(())
+}
+
+/// The line of a refused statement, how many were done before it, and how it ended.
+fn told(answer: Result<(), RunFail>) -> Option<(u32, u64, Answer)> {
+    match answer {
+        Ok(()) => None,
+        Err(RunFail { line, done, cause }) => Some((line, done, answer_of(Err(cause)))),
+    }
+}
+
+/// Its third statement is refused, on the second line.
+const STOPS: &str = "a <- data.table(v = 1L)\nb <- a; rm(nosuch)\nprint(b)\n";
+
+const NO_SUCH_NAME: &str = "Error E02 at line 2: unknown name 'nosuch'\n";
+
+/// A script ends at its first fault, whose line is put, and the statements before it stand.
+fn check_stop<L: Ledger, R: Abort>(rt: &R, alloc: Global, blank: Blank) -> Result<(), Fail>
+    requires name { blank.name ≡ L.name }
+    requires parts { blank.parts ≡ L.parts }
+    requires some { 0 < blank.parts }
+{
+    let mut steps = Steps::<L>::new(blank);
+    let mut place = new_place(alloc);
+    let bytes = STOPS.as_bytes();
+    assert!(rt; bytes.len() <= 1_048_576);
+    let answer = run_script(
+        &mut place.session,
+        bytes,
+        &mut place.files,
+        &mut place.out,
+        &mut place.err,
+        &mut steps,
+    );
+    assert_eq!(rt; told(answer), Some((2, 2, Answer::Refused(Code::E02))));
+    assert_eq!(rt; place.session.heap().live(), 1);
+    assert_eq!(rt; place.out.bytes().len(), 0);
+    assert_eq!(rt; place.err.bytes(), NO_SUCH_NAME.as_bytes());
+    Ok(())
+}
+
+#[test]
+fn tables_live_as_long_as_their_names(rt: HostRuntime) -> Result<(), Fail> {
+    check_lives::<Brand, HostRuntime>(&rt, rt.alloc(), Blank::new(1))
+}
+
+#[test]
+fn scripts_end_at_their_first_fault(rt: HostRuntime) -> Result<(), Fail> {
+    check_stop::<Brand, HostRuntime>(&rt, rt.alloc(), Blank::new(1))
+}

@@ -1,0 +1,49 @@
+ghost use Rattle.stmt_value.specs.Answers.{IsStop};
+ghost use Rattle.dt_base.specs.Fault.{fault};
+
+use arg_bind::EvalFail;
+use dt_base::{Code, Fault};
+use std::alloc::{AllocError, Global};
+
+/// Why an expression has no value: its first fault, a read that failed, or want of memory.
+#[derive(Debug, Drop)]
+pub enum ValueFail {
+    Stop(Fault),
+    ReadFault,
+    NoMemory(AllocError),
+}
+
+impl From<EvalFail> for ValueFail {
+    ghost use Rattle.std.specs.Prelude.{◌≡◌};
+    ghost use Rattle.stmt_value.specs.Fails.{widened};
+
+    ghost from_gives = { λ e f. f ≡ widened e };
+
+    fn from(e: EvalFail) -> ValueFail {
+        match e {
+            EvalFail::Stop(fault) => ValueFail::Stop(fault),
+            EvalFail::NoMemory(error) => ValueFail::NoMemory(error),
+        }
+    }
+}
+
+impl From<AllocError> for ValueFail {
+    ghost use Rattle.std.specs.Prelude.{◌≡◌};
+    ghost use Rattle.stmt_value.specs.declared.fail.ValueFail.TheVariants.{NoMemory};
+
+    ghost from_gives = { λ e f. f ≡ NoMemory e };
+
+    fn from(e: AllocError) -> ValueFail {
+        ValueFail::NoMemory(e)
+    }
+}
+
+/// The fault of this code that tells a name and no numbers, or want of memory for its text.
+pub fn refusal(alloc: Global, code: Code, what: &str) -> ValueFail
+    ensures { IsStop (fault code what.now) result }
+{
+    match Fault::of(alloc, code, what) {
+        Ok(fault) => ValueFail::Stop(fault),
+        Err(error) => ValueFail::NoMemory(error),
+    }
+}

@@ -1,0 +1,26 @@
+//! What an expression gives as the value of a statement: a table, a vector or NULL.
+//!
+//! - `value` answers it, or the first fault; `is_served` tells whether statements serve all forms of
+//!   an expression.
+//! - `argument`, `named_file`, `bare_name`, `wanted_table`: what commands ask of their arguments.
+//! - `Value` and `Given` are what it answers; `ValueFail` says why it does not.
+//!
+//! It stands on the definitions of `session_model`, on `table_heap` for names, on `csv_edge` for
+//! files and on `arg_bind` for calls. It changes no name and no table. It promises exactly the value,
+//! the warnings or the first fault of the definition `meaning`, where files tell what they hold; and
+//! that each answer that blames a file comes only where the files counted it.
+#![tactic(auto)]
+
+mod fail;
+mod files;
+mod forms;
+mod given;
+mod literals;
+mod new_table;
+mod values;
+
+pub use fail::{ValueFail, refusal};
+pub use forms::{bare_name, is_served};
+pub use given::{Given, Value};
+pub use literals::unbuilt;
+pub use values::{argument, named_file, value, wanted_table};

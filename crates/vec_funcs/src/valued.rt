@@ -1,0 +1,51 @@
+ghost use Rattle.std.specs.Prelude.{◌≡◌, ◌∷◌, [], IfOk};
+ghost use Rattle.vector_model.specs.Functions.{plain, warned};
+ghost use Rattle.arg_bind.specs.Answers.{AnswersAs};
+ghost use Rattle.na_words.specs.Shown.{vector_from};
+ghost use Rattle.vec_funcs.specs.Valued.{valued_of};
+
+use arg_bind::EvalFail;
+use dt_base::Warns;
+use na_vector::Column;
+use na_words::Target;
+use std::alloc::{AllocError, Global};
+
+/// What a function gives: a column of its own, and the warnings that it comes with.
+#[derive(Debug, Drop)]
+pub struct Valued {
+    pub column: Column,
+    pub warns: Warns,
+}
+
+/// The column of one word.
+fn single<W: Target + Drop>(alloc: Global, word: W) -> Result<Column, AllocError>
+    requires { W.fine word }
+    ensures { IfOk result (λ c. c.vector ≡ vector_from W.kind (W.cell word ∷ [])) }
+{
+    let mut words = Vec::new(alloc);
+    words.push(word)?;
+    W::column(words)
+}
+
+/// A column of one word, with these warnings.
+pub fn one_warned<W: Target + Drop>(
+    alloc: Global,
+    word: W,
+    warns: Warns,
+) -> Result<Valued, EvalFail>
+    requires { W.fine word }
+    ensures { AnswersAs valued_of (warned warns W.kind (W.cell word ∷ [])) result }
+{
+    match single::<W>(alloc, word) {
+        Ok(column) => Ok(Valued { column, warns }),
+        Err(e) => Err(EvalFail::NoMemory(e)),
+    }
+}
+
+/// A column of one word, without a warning.
+pub fn one<W: Target + Drop>(alloc: Global, word: W) -> Result<Valued, EvalFail>
+    requires { W.fine word }
+    ensures { AnswersAs valued_of (plain W.kind (W.cell word ∷ [])) result }
+{
+    one_warned::<W>(alloc, word, Warns::none())
+}
