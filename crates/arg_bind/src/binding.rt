@@ -1,13 +1,13 @@
-ghost use Rattle.std.specs.Prelude.{◌≡◌, IfErr, ◌<◌, ◌==◌, map, length, is_none, nat_lt};
+ghost use Rattle.std.specs.Prelude.{◌≡◌, IfErr, ◌<◌, ◌==◌, [], map, length, nat_lt};
 ghost use Rattle.session_model.specs.Meaning.{arg_meaning, names_in};
-ghost use Rattle.session_model.specs.Binding.{free_count, unnamed_count, place_of, places, is_formal, is_bad, names_fine, missing_word, all_there, word_in, counted, bound_to_formals, bound};
+ghost use Rattle.session_model.specs.Binding.{free_count, unnamed_count, place_of, places, is_formal, is_bad, names_fine, missing_word, is_lacking, all_there, word_in, counted, bound_to_formals, bound_unnamed, bound};
 ghost use Rattle.arg_bind.specs.Answers.{Answers, IsOwn};
 
 use crate::fail::{EvalFail, stop};
 use crate::places::{is_free_formal, is_unnamed, next, place, place_named};
 use dt_base::Code;
 use dt_tree::Arg;
-use func_table::{Arity, Formal, Func, arity_of, formal_word, formals, func_word};
+use func_table::{Arity, Formal, Func, arity_of, formal_word, formals, func_word, is_needed};
 use std::alloc::Global;
 
 fn count_free(args: &[Arg], ps: &[Formal]) -> usize
@@ -85,9 +85,9 @@ fn check_names(alloc: Global, args: &[Arg], ps: &[Formal]) -> Result<(), EvalFai
 }
 
 fn is_missing(args: &[Arg], before: usize, p: Formal) -> bool
-    ensures { result ≡ is_none (place_of (names_in (map arg_meaning args.now)) before p) }
+    ensures { result ≡ is_lacking (p, place_of (names_in (map arg_meaning args.now)) before p) }
 {
-    place(args, before, p).is_none()
+    place(args, before, p).is_none() && is_needed(p)
 }
 
 /// What names a formal that lacks its argument.
@@ -133,12 +133,21 @@ fn bind_formals(alloc: Global, f: Func, args: &[Arg]) -> Result<(), EvalFail>
     check_count(alloc, f, count_free(args, ps) < count_unnamed(args))
 }
 
+fn bind_unnamed(alloc: Global, f: Func, args: &[Arg]) -> Result<(), EvalFail>
+    ensures answer { Answers (bound_unnamed f (names_in (map arg_meaning args.now))) result }
+    ensures own { IfErr result IsOwn }
+{
+    check_names(alloc, args, &[])?;
+    check_count(alloc, f, args.is_empty())
+}
+
 /// Nothing, or the first fault of binding these arguments to a function's formals.
 ///
 /// To formals: a name that is unknown or bound twice (E19 with the name, in the order written), then
-/// a formal without an argument (E19 with its name, or the function's where the formal has none),
-/// then too many arguments (E19 with the function's name). As columns: no argument at all (E19 with
-/// the function's name). dtq's own rule, docs/LANGUAGE.md, section "Calls".
+/// a needed formal without an argument (E19 with its name, or the function's where the formal has
+/// none), then too many arguments (E19 with the function's name). Without names: the first name
+/// (E19 with it), then no argument at all (E19 with the function's name). As columns: no argument at
+/// all. dtq's own rule, docs/LANGUAGE.md, section "Calls".
 pub fn bind(alloc: Global, f: Func, args: &[Arg]) -> Result<(), EvalFail>
     ensures answer { Answers (bound f (names_in (map arg_meaning args.now))) result }
     ensures own { IfErr result IsOwn }
@@ -146,5 +155,6 @@ pub fn bind(alloc: Global, f: Func, args: &[Arg]) -> Result<(), EvalFail>
     match arity_of(f) {
         Arity::Fixed => bind_formals(alloc, f, args),
         Arity::Columns => check_count(alloc, f, args.is_empty()),
+        Arity::Unnamed => bind_unnamed(alloc, f, args),
     }
 }

@@ -70,3 +70,26 @@ fn arguments_by_place_and_name(rt: HostRuntime) -> Result<(), Fail> {
     assert_eq!(rt; place(both.as_slice(), before, Formal::File), Some(0));
     Ok(())
 }
+
+#[test]
+fn bound_with_a_flag_or_without_names(rt: HostRuntime) -> Result<(), Fail> {
+    let alloc = rt.alloc();
+    tells(&rt, alloc, Func::Sum, &[""], "")?;
+    tells(&rt, alloc, Func::Sum, &["na.rm", ""], "")?;
+    tells(&rt, alloc, Func::Sum, &["na.rm"], "x")?;
+    tells(&rt, alloc, Func::Sum, &["", "", ""], "sum")?;
+    tells(&rt, alloc, Func::Fifelse, &["test", "", ""], "")?;
+    tells(&rt, alloc, Func::Fifelse, &["", ""], "no")?;
+    tells(&rt, alloc, Func::Combine, &["", ""], "")?;
+    tells(&rt, alloc, Func::Combine, &["", "a"], "a")?;
+    tells(&rt, alloc, Func::Combine, &[], "c")
+}
+
+#[test]
+fn a_flag_before_the_vector(rt: HostRuntime) -> Result<(), Fail> {
+    let both = args(rt.alloc(), &["na.rm", ""])?;
+    let before = next(both.as_slice(), 0, Formal::X);
+    assert_eq!(rt; place(both.as_slice(), 0, Formal::X), Some(1));
+    assert_eq!(rt; place(both.as_slice(), before, Formal::NaRm), Some(0));
+    Ok(())
+}

@@ -1,8 +1,12 @@
 //! The calls of the language, as tables: their words, what they are, and their arguments.
 //!
-//! - `Func` and `func_named`: the functions and commands that statements serve. `is_later` tells the
-//!   words that the language has and no statement serves yet.
-//! - `kind_of`, `arity_of`, `formals`: what a call is, how its arguments are bound, and which it has.
+//! - `Func` and `func_named`: the functions and commands that are served, by statements or in
+//!   expressions. `is_later` tells the words that the language has and no statement serves yet, and
+//!   `later_named` what those are that nothing serves.
+//! - `kind_of`, `arity_of`, `formals`: what a call is, how its arguments are bound, and which it has;
+//!   `is_needed` and `is_flag` tell of an argument.
+//! - `Slot`: what a call gives for a formal.
+//! - `Special` and `special_named`: the names with a meaning of their own in a bracket.
 //!
 //! It stands on nothing. Each table is a definition in specs/, and each function here answers what
 //! that definition says, at once. A further call is a further row in each table.
@@ -10,6 +14,13 @@
 
 mod formal;
 mod func;
+mod slot;
+mod special;
 
-pub use formal::{Formal, formal_word};
-pub use func::{Arity, Func, Kind, arity_of, formals, func_named, func_word, is_later, kind_of};
+pub use formal::{Formal, formal_word, is_flag, is_needed};
+pub use func::{
+    Arity, Func, Kind, Later, arity_of, formals, func_named, func_word, is_later, kind_of,
+    later_named,
+};
+pub use slot::Slot;
+pub use special::{Special, special_named};

@@ -5,20 +5,20 @@
 --   place_of names before p   the place of the argument that the formal p takes, where `before`
 --                             formals before it are free
 --   names_fine                nothing, or the first name that is unknown or bound twice
---   all_there                 nothing, or the first formal without an argument
+--   all_there                 nothing, or the first needed formal without an argument
 --   bound f names             nothing, or the first fault of binding a call of f
 -- A named argument goes to the formal of that name. An argument without a name goes, in order, to
 -- the formals that no name takes. Places count from 0.
-use Rattle.std.specs.Prelude.{ℕ, ◌+◌, ◌-◌, ◌==◌, ◌||◌, not, Bool, true, false, cond, List, [], ◌∷◌, Option, None, Some, Result, Ok, Err, length, nat_lt, is_none}
+use Rattle.std.specs.Prelude.{ℕ, ◌+◌, ◌-◌, ◌==◌, ◌||◌, ◌&&◌, not, Bool, true, false, cond, List, [], ◌∷◌, Option, None, Some, Result, Ok, Err, length, nat_lt, is_none}
 use Rattle.std.specs.Str.{bytes_eq}
 use Rattle.dt_base.specs.declared.fault.Fault.{Fault}
 use Rattle.dt_base.specs.declared.fault.Code.TheVariants.{E19}
 use Rattle.dt_base.specs.Fault.{fault}
 use Rattle.func_table.specs.declared.func.Func.{Func}
 use Rattle.func_table.specs.declared.func.Arity.{Arity}
-use Rattle.func_table.specs.declared.func.Arity.TheVariants.{Fixed, Columns}
+use Rattle.func_table.specs.declared.func.Arity.TheVariants.{Fixed, Columns, Unnamed}
 use Rattle.func_table.specs.declared.formal.Formal.{Formal}
-use Rattle.func_table.specs.Calls.{arity_of, formals_of, name_of, word_of}
+use Rattle.func_table.specs.Calls.{arity_of, formals_of, is_needed, name_of, word_of}
 use Rattle.session_model.specs.Then.{then_do}
 
 -- the names of the arguments, as written
@@ -94,28 +94,38 @@ names_fine all formals i (a ∷ rest) =
 abbrev pub missing_word : Func → Formal → List ℕ
 missing_word f p = cond (bytes_eq (name_of p) []) (word_of f) (name_of p)
 
--- the first formal without an argument
+-- the formal lacks an argument, and needs one
+abbrev pub is_lacking : Formal × Option ℕ → Bool
+is_lacking x = is_none x.1 && is_needed x.0
+
+-- the first needed formal without an argument
 abbrev pub all_there : Func → List (Formal × Option ℕ) → Result (Unit {0}) Fault
 all_there f [] = Ok tt
-all_there f (x ∷ rest) = cond (is_none x.1) (Err (fault E19 (missing_word f x.0))) (all_there f rest)
+all_there f (x ∷ rest) = cond (is_lacking x) (Err (fault E19 (missing_word f x.0))) (all_there f rest)
 
 -- where a call has the wrong number of arguments, its name is at fault
 abbrev pub counted : Func → Bool → Result (Unit {0}) Fault
 counted f true = Err (fault E19 (word_of f))
 counted f false = Ok tt
 
--- To formals: unknown and double names first, in order; then formals without an argument; then
--- too many arguments.
+-- To formals: unknown and double names first, in order; then needed formals without an argument;
+-- then too many arguments.
 abbrev pub bound_to_formals : Func → ArgNames → Result (Unit {0}) Fault
 bound_to_formals f names =
     then_do (names_fine names (formals_of f) 0 names) (λ _.
     then_do (all_there f (places names 0 (formals_of f))) (λ _.
     counted f (nat_lt (free_count names (formals_of f)) (unnamed_count names))))
 
+-- Without names: the first argument with a name is at fault, and one argument or more is needed.
+abbrev pub bound_unnamed : Func → ArgNames → Result (Unit {0}) Fault
+bound_unnamed f names =
+    then_do (names_fine names [] 0 names) (λ _. counted f (length names == 0))
+
 -- As columns: one argument or more, whatever their names.
 abbrev pub bound_by : Arity → Func → ArgNames → Result (Unit {0}) Fault
 bound_by Fixed f names = bound_to_formals f names
 bound_by Columns f names = counted f (length names == 0)
+bound_by Unnamed f names = bound_unnamed f names
 
 -- nothing, or the first fault of the binding
 abbrev pub bound : Func → ArgNames → Result (Unit {0}) Fault

@@ -154,9 +154,11 @@ table_call func.Fread args w =
 table_call func.Copy args w = then_do (argument args 0 formal.Table) (λ a. copy_of a w)
 table_call _ args w = Err unbuilt
 
--- a command gives no value
+-- A command gives no value. Statements serve no function on vectors and none that tells of a table.
 abbrev pub call_of_kind : Kind → Func → List ArgMeaning → Scene → Result Given Fault
 call_of_kind kind.Command f args w = Err (fault E19 (word_of f))
+call_of_kind kind.Vector f args w = Err unbuilt
+call_of_kind kind.Description f args w = Err unbuilt
 call_of_kind kind.Table f args w = then_do (bound f (names_in args)) (λ _. table_call f args w)
 
 -- the function's name comes before its arguments
@@ -222,8 +224,8 @@ command_step f args (Some name) w = Err (fault E19 (word_of f))
 
 -- what the call of a command does as a whole statement
 abbrev pub command_of : Kind → Func → List ArgMeaning → Option (Option (List ℕ) → Scene → Result Effect Fault)
-command_of kind.Table f args = None
 command_of kind.Command f args = Some (command_step f args)
+command_of _ f args = None
 
 abbrev pub command_named : Option Func → List ArgMeaning → Option (Option (List ℕ) → Scene → Result Effect Fault)
 command_named None args = None

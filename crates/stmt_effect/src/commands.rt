@@ -219,5 +219,13 @@ pub fn command<F: Files, L: Ledger>(
         Func::Fwrite => fwrite(alloc, args, heap, files, steps),
         Func::Rm => Ok(rm(alloc, args, heap)?),
         Func::DataTable | Func::Fread | Func::Copy => Err(refusal(alloc, Code::E19, "unbuilt")),
+        Func::Combine | Func::IsNa | Func::Fifelse => Err(refusal(alloc, Code::E19, "unbuilt")),
+        Func::AsLogical | Func::AsInteger => Err(refusal(alloc, Code::E19, "unbuilt")),
+        Func::AsCharacter | Func::Sum | Func::Min => Err(refusal(alloc, Code::E19, "unbuilt")),
+        Func::Max | Func::Any | Func::All | Func::First => {
+            Err(refusal(alloc, Code::E19, "unbuilt"))
+        }
+        Func::Last | Func::Length | Func::Nrow => Err(refusal(alloc, Code::E19, "unbuilt")),
+        Func::Ncol | Func::Names => Err(refusal(alloc, Code::E19, "unbuilt")),
     }
 }

@@ -147,7 +147,9 @@ fn known_step<F: Files, L: Ledger>(
     ensures cause { IfErr result (Blames (F.held files.old) (Rose (F.misses files.old) (F.misses files.new)) (Rose (F.longs files.old) (F.longs files.new))) }
 {
     match kind_of(f) {
-        Kind::Table => value_step(alloc, e, target, heap, files, steps),
+        Kind::Table | Kind::Vector | Kind::Description => {
+            value_step(alloc, e, target, heap, files, steps)
+        }
         Kind::Command => command_step(alloc, f, args, target, heap, files, steps),
     }
 }

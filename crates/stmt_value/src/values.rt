@@ -212,6 +212,7 @@ fn known_call<'a, F: Files, L: Ledger>(
 {
     match kind_of(f) {
         Kind::Command => Err(refusal(alloc, Code::E19, func_word(f))),
+        Kind::Vector | Kind::Description => Err(refusal(alloc, Code::E19, "unbuilt")),
         Kind::Table => {
             bind(alloc, f, args)?;
             table_call(alloc, f, args, heap, files, steps)

@@ -1,5 +1,6 @@
-//! The functions of a script that give one answer from the cells of a column.
+//! The functions of a script that give one answer from the cells of a column, and `c`.
 //!
+//! - `combine`: all cells of several columns in order, in their common type.
 //! - `sum`, `min`, `max`: over the cells that are not NA, by the flag `na_rm`.
 //! - `any`, `all`: over logicals, with NA.
 //! - `first`, `last`, `length`.
@@ -15,6 +16,7 @@
 
 mod ends;
 mod extremes;
+mod joining;
 mod missing;
 mod ranked;
 mod sums;
@@ -23,9 +25,10 @@ mod valued;
 
 pub use ends::{first, last, length};
 pub use extremes::{max, min};
+pub use joining::combine;
 pub use sums::sum;
 pub use truths::{all, any};
-pub use valued::Valued;
+pub use valued::{Valued, one};
 
 #[cfg(test)]
 mod tests;

@@ -1,0 +1,46 @@
+-- What names are bound to, and columns by name.
+use Rattle.std.proofs.Common.{◌≡◌, ◌<◌, ◌==◌, ℕ, suc, List, [], ◌∷◌, length, map, Option, None, Some, Result, Ok, Err, refl, sym, ap, ◌∙◌, arith, slice_get, option_map}
+use Rattle.std.proofs.lemmas.Option.{slice_get-map}
+use Rattle.dt_base.specs.declared.fault.Code.{Code}
+use Rattle.dt_base.specs.declared.fault.Code.TheVariants.{E02, E04, E20}
+use Rattle.dt_base.specs.declared.fault.Fault.{Fault}
+use Rattle.dt_base.specs.Fault.{fault}
+use Rattle.dt_model.specs.Table.{PlainTable}
+use Rattle.dt_model.specs.Vector.{Vector as Cells}
+use Rattle.expr_model.specs.Surroundings.{Var, Table, Vector, var_vector, var_table}
+use Rattle.expr_eval.specs.Scope.{vector_bound, table_bound}
+
+-- the name of a vector gives the vector
+pub vector_found : (code : Code) (name : List ℕ) (o : Option Var) (v : Cells) → Some v ≡ vector_bound o → var_vector code name o ≡ Ok v
+vector_found code name None v h = cc
+vector_found code name (Some (Table t)) v h = cc
+vector_found code name (Some (Vector w)) v h = cc
+
+-- any other name is a fault of the type where it is a table's, and else unknown
+pub table_in_place : (code : Code) (name : List ℕ) (o : Option Var) (t : PlainTable) → None ≡ vector_bound o → Some t ≡ table_bound o → var_vector code name o ≡ Err (fault E04 name)
+table_in_place code name None t h k = cc
+table_in_place code name (Some (Table u)) t h k = refl
+table_in_place code name (Some (Vector w)) t h k = cc
+
+pub unknown_name : (code : Code) (name : List ℕ) (o : Option Var) → None ≡ vector_bound o → None ≡ table_bound o → var_vector code name o ≡ Err (fault code name)
+unknown_name code name None h k = refl
+unknown_name code name (Some (Table u)) h k = cc
+unknown_name code name (Some (Vector w)) h k = cc
+
+-- the name of a table gives the table
+pub table_found : (name : List ℕ) (o : Option Var) (t : PlainTable) → Some t ≡ table_bound o → var_table name o ≡ Ok t
+table_found name None t h = cc
+table_found name (Some (Table u)) t h = cc
+table_found name (Some (Vector w)) t h = cc
+
+pub vector_in_place : (name : List ℕ) (o : Option Var) (v : Cells) → None ≡ table_bound o → Some v ≡ vector_bound o → var_table name o ≡ Err (fault E20 name)
+vector_in_place name None v h k = cc
+vector_in_place name (Some (Table u)) v h k = cc
+vector_in_place name (Some (Vector w)) v h k = refl
+
+pub unknown_table : (name : List ℕ) (o : Option Var) → None ≡ table_bound o → None ≡ vector_bound o → var_table name o ≡ Err (fault E02 name)
+unknown_table name None h k = refl
+unknown_table name (Some (Table u)) h k = cc
+unknown_table name (Some (Vector w)) h k = cc
+
+pub ruleset bindings = (vector_found, table_in_place, unknown_name, table_found, vector_in_place, unknown_table)

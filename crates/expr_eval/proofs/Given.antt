@@ -1,0 +1,25 @@
+-- A call that is given more than three arguments is not served.
+use Rattle.std.proofs.Common.{◌≡◌, ◌<◌, List, [], ◌∷◌, length, map, Result, Err, refl, arith}
+use Rattle.arg_bind.specs.Answers.{AnswersAs, IsStop}
+use Rattle.arg_bind.specs.declared.fail.EvalFail.{EvalFail}
+use Rattle.arg_bind.specs.declared.fail.EvalFail.TheVariants.{Stop, NoMemory}
+use Rattle.dt_base.specs.declared.fault.Fault.{Fault}
+use Rattle.expr_eval.specs.Slots.{slot_of}
+use Rattle.expr_model.specs.Functions.{unserved, value_of}
+use Rattle.expr_model.specs.Meaning.{slot_vector}
+use Rattle.func_table.specs.declared.func.Func.{Func}
+use Rattle.func_table.specs.declared.slot.Slot.{Slot}
+use Rattle.vec_funcs.specs.declared.valued.Valued.{Valued}
+
+pub more_given : (f : Func) (given : List (Slot Valued)) → 3 < length given → value_of f (map slot_vector (map slot_of given)) ≡ Err unserved
+unfolding value_of
+more_given f [] h = absurd (omega (arith, h))
+more_given f (a ∷ []) h = absurd (omega (arith, h))
+more_given f (a ∷ b ∷ []) h = absurd (omega (arith, h))
+more_given f (a ∷ b ∷ c ∷ []) h = absurd (omega (arith, h))
+more_given f (a ∷ b ∷ c ∷ d ∷ rest) h = refl
+
+-- a fault that is told is the fault of the definition
+pub stop_told : {A B : Type 0} (view : B → A) (o : Result A Fault) (f : Fault) (e : EvalFail) → o ≡ Err f → IsStop f e → AnswersAs view o (Err e)
+stop_told view o f (NoMemory x) h k = tt
+stop_told view o f (Stop g) h k = rw (h, k) refl

@@ -1,0 +1,7 @@
+pub mod ArgNames
+pub mod Between
+pub mod Bindings
+pub mod Given
+pub mod Plain
+pub mod Refused
+pub mod Vectors

@@ -1,0 +1,23 @@
+use Rattle.std.proofs.Common.{◌≡◌, ◌≤◌, [], map, drop}
+use Rattle.expr_eval.specs.Scope.{env_of}
+use Rattle.expr_eval.specs.Slots.{slot_of}
+use Rattle.expr_model.specs.Meaning.{arg_meaning, arg_names, tail_meaning, value_tails, each, slots}
+use Rattle.session_model.specs.Binding.{places}
+use Rattle.vec_funcs.specs.Valued.{valued_of}
+use Rattle.expr_eval.proofs.values.+eval.Given as goal
+
+abbrev pub invariant-eval_tails-loop-t : goal.invariant-eval_tails-loop-t
+invariant-eval_tails-loop-t g l =
+    value_tails (env_of g.V.Vars.bound l.s) (valued_of l.fn.first) (map tail_meaning l.rest)
+    ≡ value_tails (env_of g.V.Vars.bound l.s) (valued_of l.value) (map tail_meaning (drop l.t-index l.rest))
+
+abbrev pub invariant-values_of_each-loop-a : goal.invariant-values_of_each-loop-a
+invariant-values_of_each-loop-a g l =
+    each (λ m. m.value (env_of g.V.Vars.bound l.s)) [] (map arg_meaning l.args)
+    ≡ each (λ m. m.value (env_of g.V.Vars.bound l.s)) (map valued_of l.done.items) (map arg_meaning (drop l.a-index l.args))
+
+abbrev pub invariant-eval_formals-loop-p : goal.invariant-eval_formals-loop-p
+invariant-eval_formals-loop-p g l =
+    (l.before ≤ l.p-index)
+    × (slots (λ m. m.value (env_of g.V.Vars.bound l.s)) (map arg_meaning l.args) [] (places (arg_names (map arg_meaning l.args)) 0 l.ps)
+    ≡ slots (λ m. m.value (env_of g.V.Vars.bound l.s)) (map arg_meaning l.args) (map slot_of l.done.items) (places (arg_names (map arg_meaning l.args)) l.before (drop l.p-index l.ps)))

@@ -1,0 +1,4 @@
+pub mod Ranges
+pub mod Refusals
+pub mod Scope
+pub mod Slots

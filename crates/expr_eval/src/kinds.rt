@@ -1,0 +1,246 @@
+ghost use Rattle.std.specs.Prelude.{◌≡◌};
+ghost use Rattle.arg_bind.specs.Answers.{Answers};
+ghost use Rattle.dt_model.specs.Operations.{arithmetic_type};
+ghost use Rattle.expr_model.specs.Functions.{type_of, type_of_one, type_of_two, type_of_three, one_type, flagged_type, three_type, choice_type, description_type};
+ghost use Rattle.expr_model.specs.Operators.{op_word, unary_word, typed_as, range_type, tail_type, sign_type};
+ghost use Rattle.vector_model.specs.Functions.{sum_type, any_type, all_type, extreme_type};
+
+use arg_bind::{EvalFail, stop};
+use dt_base::{Code, ColType, Op, UnOp};
+use dt_tree::BinOp;
+use func_table::{Func, Slot};
+use na_ops::{common, op_type};
+use std::alloc::Global;
+
+/// An operator as it is written.
+pub fn op_name(op: Op) -> &'static str
+    ensures { result.now ≡ op_word op }
+{
+    match op {
+        Op::Add => "+",
+        Op::Sub => "-",
+        Op::Mul => "*",
+        Op::Div => "%/%",
+        Op::Mod => "%%",
+        Op::Eq => "==",
+        Op::Ne => "!=",
+        Op::Lt => "<",
+        Op::Le => "<=",
+        Op::Gt => ">",
+        Op::Ge => ">=",
+        Op::And => "&",
+        Op::Or => "|",
+    }
+}
+
+/// A one-sided operator as it is written.
+pub fn unary_name(op: UnOp) -> &'static str
+    ensures { result.now ≡ unary_word op }
+{
+    match op {
+        UnOp::Neg => "-",
+        UnOp::Not => "!",
+        UnOp::IsNa => "is.na",
+    }
+}
+
+/// The type of a result, or E04 with the word where the types have none.
+fn typed_as(alloc: Global, word: &str, kind: Option<ColType>) -> Result<ColType, EvalFail>
+    ensures { Answers (typed_as word.now kind) result }
+{
+    match kind {
+        Some(kind) => Ok(kind),
+        None => Err(stop(alloc, Code::E04, word)),
+    }
+}
+
+/// The type of arithmetic.
+fn arithmetic_type(a: ColType, b: ColType) -> Option<ColType>
+    ensures { result ≡ arithmetic_type a b }
+{
+    op_type(Op::Add, a, b)
+}
+
+/// The type of a range. Texts are E04 with `:`.
+pub fn range_type(alloc: Global, a: ColType, b: ColType) -> Result<ColType, EvalFail>
+    ensures { Answers (range_type a b) result }
+{
+    typed_as(alloc, ":", arithmetic_type(a, b))
+}
+
+/// The type that a two-sided operator gives for two types. Types that it does not take are E04 with
+/// the operator.
+pub fn tail_type(alloc: Global, op: BinOp, a: ColType, b: ColType) -> Result<ColType, EvalFail>
+    ensures { Answers (tail_type op a b) result }
+{
+    match op {
+        BinOp::Arith(op) => typed_as(alloc, op_name(op), op_type(op, a, b)),
+        BinOp::In => Ok(ColType::Lgl),
+        BinOp::Range => range_type(alloc, a, b),
+    }
+}
+
+/// The type that `-` or `!` gives for a type, or `is.na`.
+pub fn sign_type(alloc: Global, op: UnOp, kind: ColType) -> Result<ColType, EvalFail>
+    ensures { Answers (sign_type op kind) result }
+{
+    match op {
+        UnOp::Neg => typed_as(alloc, "-", op_type(Op::Sub, kind, kind)),
+        UnOp::Not => typed_as(alloc, "!", op_type(Op::And, kind, kind)),
+        UnOp::IsNa => Ok(ColType::Lgl),
+    }
+}
+
+/// The type of `fifelse`. Its test is logical, else E04 with `fifelse`.
+fn choice_type(alloc: Global, test: ColType, a: ColType, b: ColType) -> Result<ColType, EvalFail>
+    ensures { Answers (choice_type test a b) result }
+{
+    match test {
+        ColType::Lgl => Ok(common(a, b)),
+        ColType::Int | ColType::Chr => Err(stop(alloc, Code::E04, "fifelse")),
+    }
+}
+
+fn sum_type(alloc: Global, kind: ColType) -> Result<ColType, EvalFail>
+    ensures { Answers (sum_type kind) result }
+{
+    match kind {
+        ColType::Lgl | ColType::Int => Ok(ColType::Int),
+        ColType::Chr => Err(stop(alloc, Code::E04, "sum")),
+    }
+}
+
+/// The type of `min` and `max`: logicals count as integers.
+fn extreme_type(kind: ColType) -> ColType
+    ensures { result ≡ extreme_type kind }
+{
+    match kind {
+        ColType::Lgl | ColType::Int => ColType::Int,
+        ColType::Chr => ColType::Chr,
+    }
+}
+
+fn any_type(alloc: Global, kind: ColType) -> Result<ColType, EvalFail>
+    ensures { Answers (any_type kind) result }
+{
+    match kind {
+        ColType::Lgl => Ok(ColType::Lgl),
+        ColType::Int | ColType::Chr => Err(stop(alloc, Code::E04, "any")),
+    }
+}
+
+fn all_type(alloc: Global, kind: ColType) -> Result<ColType, EvalFail>
+    ensures { Answers (all_type kind) result }
+{
+    match kind {
+        ColType::Lgl => Ok(ColType::Lgl),
+        ColType::Int | ColType::Chr => Err(stop(alloc, Code::E04, "all")),
+    }
+}
+
+/// The type of a function of one vector.
+fn one_type(alloc: Global, f: Func, kind: ColType) -> Result<ColType, EvalFail>
+    ensures { Answers (one_type f kind) result }
+{
+    match f {
+        Func::IsNa | Func::AsLogical => Ok(ColType::Lgl),
+        Func::AsInteger | Func::Length => Ok(ColType::Int),
+        Func::AsCharacter => Ok(ColType::Chr),
+        Func::Any => any_type(alloc, kind),
+        Func::All => all_type(alloc, kind),
+        Func::First | Func::Last => Ok(kind),
+        _ => Err(stop(alloc, Code::E19, "unbuilt")),
+    }
+}
+
+/// The type of a function of a vector and the flag `na.rm`.
+fn flagged_type(alloc: Global, f: Func, kind: ColType) -> Result<ColType, EvalFail>
+    ensures { Answers (flagged_type f kind) result }
+{
+    match f {
+        Func::Sum => sum_type(alloc, kind),
+        Func::Min | Func::Max => Ok(extreme_type(kind)),
+        _ => Err(stop(alloc, Code::E19, "unbuilt")),
+    }
+}
+
+/// The type of a function of a test and two vectors.
+fn three_type(
+    alloc: Global,
+    f: Func,
+    test: ColType,
+    a: ColType,
+    b: ColType,
+) -> Result<ColType, EvalFail>
+    ensures { Answers (three_type f test a b) result }
+{
+    match f {
+        Func::Fifelse => choice_type(alloc, test, a, b),
+        _ => Err(stop(alloc, Code::E19, "unbuilt")),
+    }
+}
+
+fn type_of_one(alloc: Global, f: Func, x: &Slot<ColType>) -> Result<ColType, EvalFail>
+    ensures { Answers (type_of_one f x.now) result }
+{
+    match x {
+        Slot::Given(kind) => one_type(alloc, f, *kind),
+        Slot::Flag(_) | Slot::Absent => Err(stop(alloc, Code::E19, "unbuilt")),
+    }
+}
+
+fn type_of_two(
+    alloc: Global,
+    f: Func,
+    x: &Slot<ColType>,
+    flag: &Slot<ColType>,
+) -> Result<ColType, EvalFail>
+    ensures { Answers (type_of_two f x.now flag.now) result }
+{
+    match (x, flag) {
+        (Slot::Given(kind), Slot::Absent) => flagged_type(alloc, f, *kind),
+        (Slot::Given(kind), Slot::Flag(_)) => flagged_type(alloc, f, *kind),
+        _ => Err(stop(alloc, Code::E19, "unbuilt")),
+    }
+}
+
+fn type_of_three(
+    alloc: Global,
+    f: Func,
+    test: &Slot<ColType>,
+    a: &Slot<ColType>,
+    b: &Slot<ColType>,
+) -> Result<ColType, EvalFail>
+    ensures { Answers (type_of_three f test.now a.now b.now) result }
+{
+    match (test, a, b) {
+        (Slot::Given(test), Slot::Given(a), Slot::Given(b)) => three_type(alloc, f, *test, *a, *b),
+        _ => Err(stop(alloc, Code::E19, "unbuilt")),
+    }
+}
+
+/// The type of what a function gives for arguments of these types, once its arguments are bound.
+/// Types that it does not take are E04 with the function.
+#[tactic(auto, unfolding(expr_model::specs::Functions::type_of))]
+pub fn func_type(alloc: Global, f: Func, given: &[Slot<ColType>]) -> Result<ColType, EvalFail>
+    ensures { Answers (type_of f given.now) result }
+{
+    match given {
+        [] => Err(stop(alloc, Code::E19, "unbuilt")),
+        [x] => type_of_one(alloc, f, x),
+        [x, y] => type_of_two(alloc, f, x, y),
+        [x, y, z] => type_of_three(alloc, f, x, y, z),
+        [_, _, _, _, ..] => Err(stop(alloc, Code::E19, "unbuilt")),
+    }
+}
+
+/// The type of what a function tells of a table.
+pub fn description_type(alloc: Global, f: Func) -> Result<ColType, EvalFail>
+    ensures { Answers (description_type f) result }
+{
+    match f {
+        Func::Nrow | Func::Ncol => Ok(ColType::Int),
+        Func::Names => Ok(ColType::Chr),
+        _ => Err(stop(alloc, Code::E19, "unbuilt")),
+    }
+}

@@ -1,0 +1,61 @@
+ghost use Rattle.std.specs.Prelude.{◌≡◌, Ok};
+ghost use Rattle.arg_bind.specs.Answers.{AnswersAs};
+ghost use Rattle.expr_model.specs.Meaning.{quiet};
+ghost use Rattle.expr_model.specs.Surroundings.{one_cell};
+ghost use Rattle.session_model.specs.Form.{literal_cell};
+ghost use Rattle.vec_funcs.specs.Valued.{valued_of};
+
+use arg_bind::EvalFail;
+use dt_base::limits::NA_WORD;
+use dt_base::{Cell, ColType, Text};
+use na_words::NA_LGL;
+use std::alloc::Global;
+use vec_funcs::{Valued, one};
+
+/// A logical literal; any other cell counts as NA.
+fn lgl_literal(alloc: Global, cell: &Cell) -> Result<Valued, EvalFail>
+    ensures { AnswersAs valued_of (quiet (Ok (one_cell ColType.Lgl (literal_cell ColType.Lgl cell.now)))) result }
+{
+    match cell {
+        Cell::Lgl(b) => one::<u8>(alloc, *b as u8),
+        Cell::Na | Cell::Int(_) | Cell::Text(_) => one::<u8>(alloc, NA_LGL),
+    }
+}
+
+/// An integer literal; any other cell counts as NA.
+fn int_literal(alloc: Global, cell: &Cell) -> Result<Valued, EvalFail>
+    ensures { AnswersAs valued_of (quiet (Ok (one_cell ColType.Int (literal_cell ColType.Int cell.now)))) result }
+{
+    match cell {
+        Cell::Int(n) => one::<i64>(alloc, *n),
+        Cell::Na | Cell::Lgl(_) | Cell::Text(_) => one::<i64>(alloc, NA_WORD),
+    }
+}
+
+fn text_value(alloc: Global, text: &Text) -> Result<Valued, EvalFail>
+    ensures { AnswersAs valued_of (quiet (Ok (one_cell ColType.Chr (Cell.Text text.now)))) result }
+{
+    let text = text.copy()?;
+    one::<Option<Text>>(alloc, Some(text))
+}
+
+/// A text literal; any other cell counts as NA.
+fn text_literal(alloc: Global, cell: &Cell) -> Result<Valued, EvalFail>
+    ensures { AnswersAs valued_of (quiet (Ok (one_cell ColType.Chr (literal_cell ColType.Chr cell.now)))) result }
+{
+    match cell {
+        Cell::Text(text) => text_value(alloc, text),
+        Cell::Na | Cell::Lgl(_) | Cell::Int(_) => one::<Option<Text>>(alloc, None),
+    }
+}
+
+/// The vector of a literal: one cell of its type.
+pub fn literal_value(alloc: Global, kind: ColType, cell: &Cell) -> Result<Valued, EvalFail>
+    ensures { AnswersAs valued_of (quiet (Ok (one_cell kind (literal_cell kind cell.now)))) result }
+{
+    match kind {
+        ColType::Lgl => lgl_literal(alloc, cell),
+        ColType::Int => int_literal(alloc, cell),
+        ColType::Chr => text_literal(alloc, cell),
+    }
+}

@@ -1,0 +1,140 @@
+ghost use Rattle.std.specs.Prelude.{◌≡◌, ◌<◌, length, IfSome};
+ghost use Rattle.arg_bind.specs.Answers.{Answers, AnswersAs};
+ghost use Rattle.dt_model.specs.Table.{place_of};
+ghost use Rattle.expr_eval.specs.Scope.{env_of, IsScope, vector_lent, table_lent, column_seen, columns_of};
+ghost use Rattle.expr_model.specs.Meaning.{kind_in};
+ghost use Rattle.expr_model.specs.Surroundings.{column_named, var_vector, var_table, bracket_vector, group_vector, special_vector, name_vector};
+
+use crate::{Scope, Vars};
+use arg_bind::{EvalFail, stop};
+use dt_base::{Code, ColName, ColType};
+use dt_table::Table;
+use func_table::{Special, special_named};
+use na_vector::{Column, Frame};
+use std::alloc::Global;
+
+/// The vector that a script's name gives. Where a table has the name it is E04 with it; an unknown
+/// name has this code.
+#[tactic(auto, using(crate::proofs::Bindings::bindings))]
+pub fn var_vector<'a, V: Vars>(
+    alloc: Global,
+    vars: &'a V,
+    code: Code,
+    name: &str,
+) -> Result<&'a Column, EvalFail>
+    ensures { AnswersAs vector_lent (var_vector code name.now (V.bound vars.entry.now name.now)) result }
+{
+    match vars.vector(name) {
+        Some(column) => Ok(column),
+        None => match vars.table(name) {
+            Some(_) => Err(stop(alloc, Code::E04, name)),
+            None => Err(stop(alloc, code, name)),
+        },
+    }
+}
+
+/// The table that a script's name gives. Where a vector has the name it is E20 with it, and an
+/// unknown name is E02.
+#[tactic(auto, using(crate::proofs::Bindings::bindings))]
+pub fn var_table<'a, V: Vars>(alloc: Global, vars: &'a V, name: &str) -> Result<&'a Table, EvalFail>
+    ensures { AnswersAs table_lent (var_table name.now (V.bound vars.entry.now name.now)) result }
+{
+    match vars.table(name) {
+        Some(table) => Ok(table),
+        None => match vars.vector(name) {
+            Some(_) => Err(stop(alloc, Code::E20, name)),
+            None => Err(stop(alloc, Code::E02, name)),
+        },
+    }
+}
+
+/// The first place of a name, in range.
+fn place_in(names: &[ColName], name: &str) -> Option<usize>
+    ensures place { result ≡ place_of name.now names.now }
+    ensures within { IfSome result (λ c. c < length names.now) }
+{
+    names.iter().position(|n| n.as_str() == name)
+}
+
+/// The column of a name, if there is one.
+fn column_named<'a>(names: &[ColName], frame: &'a Frame, name: &str) -> Option<&'a Column>
+    requires { length names.now ≡ length frame.now.columns }
+    ensures { column_seen result ≡ column_named name.now (columns_of names.now frame.entry.now) }
+{
+    match place_in(names, name) {
+        Some(c) => Some(frame.col(c)),
+        None => None,
+    }
+}
+
+/// The vector that a name gives in a bracket, special names apart: the columns of the one row come
+/// before the rows', and these before the script's vectors. Any other name is E03 with it.
+pub fn bracket_vector<'a, V: Vars>(
+    alloc: Global,
+    s: &Scope<'a, V>,
+    name: &str,
+) -> Result<&'a Column, EvalFail>
+    requires { IsScope s.now }
+    ensures { AnswersAs vector_lent (bracket_vector (env_of V.bound s.now) name.now) result }
+{
+    if let Some(column) = column_named(s.single_names, s.single, name) {
+        return Ok(column);
+    }
+    if let Some(column) = column_named(s.names, s.wide, name) {
+        return Ok(column);
+    }
+    var_vector(alloc, s.vars, Code::E03, name)
+}
+
+/// The type of `.GRP`. Where there are no groups it is E03.
+fn group_kind(alloc: Global, group: u64) -> Result<ColType, EvalFail>
+    ensures { Answers (kind_in (group_vector group)) result }
+{
+    if group == 0 {
+        return Err(stop(alloc, Code::E03, ".GRP"));
+    }
+    Ok(ColType::Int)
+}
+
+/// The type of a special name: all are integers, but `.SD`, which is no vector.
+fn special_kind<V: Vars>(
+    alloc: Global,
+    s: &Scope<'_, V>,
+    special: Special,
+) -> Result<ColType, EvalFail>
+    ensures { Answers (kind_in (special_vector (env_of V.bound s.now) special)) result }
+{
+    match special {
+        Special::Count => Ok(ColType::Int),
+        Special::Places => Ok(ColType::Int),
+        Special::Group => group_kind(alloc, s.group),
+        Special::Rows => Err(stop(alloc, Code::E04, ".SD")),
+    }
+}
+
+fn outside_kind<V: Vars>(alloc: Global, vars: &V, name: &str) -> Result<ColType, EvalFail>
+    ensures { Answers (kind_in (var_vector Code.E02 name.now (V.bound vars.now name.now))) result }
+{
+    Ok(var_vector(alloc, vars, Code::E02, name)?.kind())
+}
+
+fn bracket_kind<V: Vars>(alloc: Global, s: &Scope<'_, V>, name: &str) -> Result<ColType, EvalFail>
+    requires { IsScope s.now }
+    ensures { Answers (kind_in (bracket_vector (env_of V.bound s.now) name.now)) result }
+{
+    Ok(bracket_vector(alloc, s, name)?.kind())
+}
+
+/// The type of what a name gives where a vector is wanted. It looks at no cell.
+pub fn name_kind<V: Vars>(alloc: Global, s: &Scope<'_, V>, name: &str) -> Result<ColType, EvalFail>
+    requires { IsScope s.now }
+    ensures { Answers (kind_in (name_vector (env_of V.bound s.now) name.now)) result }
+{
+    if !s.inside {
+        return outside_kind(alloc, s.vars, name);
+    }
+    match special_named(name) {
+        Some(special) => special_kind(alloc, s, special),
+        None => bracket_kind(alloc, s, name),
+    }
+}

@@ -1,0 +1,199 @@
+ghost use Rattle.std.specs.Prelude.{◌≡◌, Ok, codes};
+ghost use Rattle.arg_bind.specs.Answers.{AnswersAs, IsStop};
+ghost use Rattle.dt_base.specs.Warns.{both_warns};
+ghost use Rattle.dt_model.specs.Operations.{binary, unary, chosen, contained};
+ghost use Rattle.expr_eval.specs.Refusals.{Refuses};
+ghost use Rattle.expr_model.specs.Functions.{choice_value, conversion, na_test};
+ghost use Rattle.expr_model.specs.Meaning.{met, signed};
+ghost use Rattle.expr_model.specs.Operators.{op_word, unary_word, op_result, length_fault, tail_value, sign_value};
+ghost use Rattle.vec_funcs.specs.Valued.{valued_of, vector_of};
+
+use crate::kinds::{op_name, unary_name};
+use crate::lent::unwarned;
+use crate::ranges::range_value;
+use arg_bind::{EvalFail, stop};
+use dt_base::{Code, ColType, Fault, Op, Steps, Text, UnOp};
+use dt_tree::BinOp;
+use na_ops::{OpFail, binary, choose, coerce, contained, unary};
+use na_vector::Column;
+use std::alloc::Global;
+use std::sync::ledger::Ledger;
+use vec_funcs::Valued;
+
+/// A length n where m is wanted.
+pub fn stop_length(alloc: Global, n: usize, m: usize) -> EvalFail
+    ensures { IsStop (length_fault n m) result }
+{
+    match Text::make(alloc, "") {
+        Ok(what) => EvalFail::Stop(Fault {
+            code: Code::E05,
+            what,
+            n: n as u64,
+            m: m as u64,
+        }),
+        Err(error) => EvalFail::NoMemory(error),
+    }
+}
+
+/// The fault of an operation that is refused, told with this word.
+fn refused(alloc: Global, word: &str, fail: OpFail) -> EvalFail
+    ensures { Refuses word.now fail result }
+{
+    match fail {
+        OpFail::BadType => stop(alloc, Code::E04, word),
+        OpFail::Length { left, right } => stop_length(alloc, right, left),
+        OpFail::Overflow { place: _ } => stop(alloc, Code::E06, word),
+        OpFail::TooManyRows => stop(alloc, Code::E07, ""),
+        OpFail::NoMemory(error) => EvalFail::NoMemory(error),
+    }
+}
+
+#[tactic(auto, using(crate::proofs::Refused::refused_told))]
+fn arith_value<L: Ledger>(
+    alloc: Global,
+    op: Op,
+    a: &Column,
+    b: &Column,
+    steps: &mut Steps<L>,
+) -> Result<Column, EvalFail>
+    ensures { AnswersAs vector_of (op_result (op_word op) (binary op a.now.vector b.now.vector)) result }
+{
+    match binary(alloc, op, a, b, steps) {
+        Ok(column) => Ok(column),
+        Err(fail) => Err(refused(alloc, op_name(op), fail)),
+    }
+}
+
+fn member_value<L: Ledger>(
+    alloc: Global,
+    a: &Column,
+    b: &Column,
+    steps: &mut Steps<L>,
+) -> Result<Column, EvalFail>
+    ensures { AnswersAs vector_of (Ok (contained a.now.vector b.now.vector)) result }
+{
+    match contained(alloc, a, b, steps) {
+        Ok(column) => Ok(column),
+        Err(e) => Err(EvalFail::NoMemory(e)),
+    }
+}
+
+/// What a two-sided operator gives for two vectors.
+fn tail_value<L: Ledger>(
+    alloc: Global,
+    op: BinOp,
+    a: &Column,
+    b: &Column,
+    steps: &mut Steps<L>,
+) -> Result<Column, EvalFail>
+    ensures { AnswersAs vector_of (tail_value op a.now.vector b.now.vector) result }
+{
+    match op {
+        BinOp::Arith(op) => arith_value(alloc, op, a, b, steps),
+        BinOp::In => member_value(alloc, a, b, steps),
+        BinOp::Range => range_value(alloc, a, b, steps),
+    }
+}
+
+/// What a two-sided operator gives for two values, with the warnings of both.
+pub fn met<L: Ledger>(
+    alloc: Global,
+    op: BinOp,
+    left: &Valued,
+    right: &Valued,
+    steps: &mut Steps<L>,
+) -> Result<Valued, EvalFail>
+    ensures { AnswersAs valued_of (met op (valued_of left.now) (valued_of right.now)) result }
+{
+    let column = tail_value(alloc, op, &left.column, &right.column, steps)?;
+    Ok(Valued {
+        column,
+        warns: left.warns.both(right.warns),
+    })
+}
+
+#[tactic(auto, using(crate::proofs::Refused::refused_told))]
+fn sign_value<L: Ledger>(
+    alloc: Global,
+    op: UnOp,
+    a: &Column,
+    steps: &mut Steps<L>,
+) -> Result<Column, EvalFail>
+    ensures { AnswersAs vector_of (sign_value op a.now.vector) result }
+{
+    match unary(alloc, op, a, steps) {
+        Ok(column) => Ok(column),
+        Err(fail) => Err(refused(alloc, unary_name(op), fail)),
+    }
+}
+
+/// What `-` or `!` gives for a value, with its warnings.
+pub fn signed<L: Ledger>(
+    alloc: Global,
+    op: UnOp,
+    a: &Valued,
+    steps: &mut Steps<L>,
+) -> Result<Valued, EvalFail>
+    ensures { AnswersAs valued_of (signed op (valued_of a.now)) result }
+{
+    let column = sign_value(alloc, op, &a.column, steps)?;
+    Ok(Valued {
+        column,
+        warns: a.warns,
+    })
+}
+
+/// `is.na`.
+pub fn na_test<L: Ledger>(
+    alloc: Global,
+    x: &Column,
+    steps: &mut Steps<L>,
+) -> Result<Valued, EvalFail>
+    ensures { AnswersAs valued_of (na_test x.now.vector) result }
+{
+    Ok(unwarned(sign_value(alloc, UnOp::IsNa, x, steps)?))
+}
+
+#[tactic(auto, using(crate::proofs::Refused::refused_told))]
+fn chosen<L: Ledger>(
+    alloc: Global,
+    test: &Column,
+    a: &Column,
+    b: &Column,
+    steps: &mut Steps<L>,
+) -> Result<Column, EvalFail>
+    ensures { AnswersAs vector_of (op_result (codes "fifelse") (chosen test.now.vector a.now.vector b.now.vector)) result }
+{
+    match choose(alloc, test, a, b, steps) {
+        Ok(column) => Ok(column),
+        Err(fail) => Err(refused(alloc, "fifelse", fail)),
+    }
+}
+
+/// `fifelse`.
+pub fn choice_value<L: Ledger>(
+    alloc: Global,
+    test: &Column,
+    a: &Column,
+    b: &Column,
+    steps: &mut Steps<L>,
+) -> Result<Valued, EvalFail>
+    ensures { AnswersAs valued_of (choice_value test.now.vector a.now.vector b.now.vector) result }
+{
+    Ok(unwarned(chosen(alloc, test, a, b, steps)?))
+}
+
+/// `as.logical`, `as.integer`, `as.character`.
+pub fn conversion<L: Ledger>(
+    alloc: Global,
+    to: ColType,
+    x: &Column,
+    steps: &mut Steps<L>,
+) -> Result<Valued, EvalFail>
+    ensures { AnswersAs valued_of (conversion to x.now.vector) result }
+{
+    match coerce(alloc, x, to, steps) {
+        Ok((column, warns)) => Ok(Valued { column, warns }),
+        Err(e) => Err(EvalFail::NoMemory(e)),
+    }
+}

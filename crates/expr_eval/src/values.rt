@@ -1,0 +1,316 @@
+ghost use Rattle.std.specs.Prelude.{◌≡◌, ◌<◌, [], length, map};
+ghost use Rattle.arg_bind.specs.Answers.{AnswersAs};
+ghost use Rattle.expr_eval.specs.Scope.{env_of, IsScope};
+ghost use Rattle.expr_eval.specs.Slots.{slot_of};
+ghost use Rattle.expr_model.specs.Meaning.{meaning, arg_meaning, tail_meaning, arg_names, arg_at, flag_slot, value_in, value_tail, value_tails, signed, given, slot_as, slot_at, slots, each, combined, value_vectors, value_kind, value_call};
+ghost use Rattle.func_table.specs.Calls.{is_flag, kind_of};
+ghost use Rattle.session_model.specs.Binding.{places, place_of};
+ghost use Rattle.session_model.specs.Then.{then_do};
+ghost use Rattle.vec_funcs.specs.Valued.{valued_of};
+
+use crate::applied::{applied, combined};
+use crate::arguments::{add, bind_call, flag_given, later_call, next_in, place_in, table_given};
+use crate::lent::name_value;
+use crate::literals::literal_value;
+use crate::operations::{met, signed};
+use crate::tables::description;
+use crate::{Scope, Vars};
+use arg_bind::{EvalFail, stop};
+use dt_base::{Code, Steps, UnOp};
+use dt_tree::{Arg, Expr, Tail};
+use func_table::{
+    Arity, Formal, Func, Kind, Slot, arity_of, formals, func_named, func_word, is_flag, kind_of,
+};
+use std::alloc::Global;
+use std::sync::ledger::Ledger;
+use vec_funcs::Valued;
+
+/// The value of an expression in its surroundings with its warnings, or its first fault.
+///
+/// The faults of `check` come where they come there. Beside them lengths that do not go together are
+/// E05, a result out of range is E06 with the operator or function, too many cells are E07, and NA at
+/// an end of `:` is E19; each where its operator or function is valued, left to right and inner first.
+/// dtq's own rule, docs/LANGUAGE.md, section "Expressions".
+#[cycle(eval)]
+pub fn eval<V: Vars, L: Ledger>(
+    alloc: Global,
+    e: &Expr,
+    s: &Scope<'_, V>,
+    steps: &mut Steps<L>,
+) -> Result<Valued, EvalFail>
+    requires { IsScope s.now }
+    ensures { AnswersAs valued_of (value_in e.now (env_of V.bound s.now)) result }
+{
+    match e {
+        Expr::Lit { cell, kind } => literal_value(alloc, *kind, cell),
+        Expr::Null => Err(stop(alloc, Code::E04, "NULL")),
+        Expr::Infinite => Err(stop(alloc, Code::E04, "Inf")),
+        Expr::Name { name } => name_value(alloc, s, name.as_str(), steps),
+        Expr::Paren { inner } => eval(alloc, inner.get(), s, steps),
+        Expr::Minus { arg } => eval_sign(alloc, UnOp::Neg, arg.get(), s, steps),
+        Expr::Not { arg } => eval_sign(alloc, UnOp::Not, arg.get(), s, steps),
+        Expr::Chain { first, rest } => {
+            eval_tails(
+                alloc,
+                eval(alloc, first.get(), s, steps)?,
+                rest.as_slice(),
+                s,
+                steps,
+            )
+        }
+        Expr::Call { name, args } => eval_call(alloc, name.as_str(), args.as_slice(), s, steps),
+        Expr::Query {
+            head: _,
+            brackets: _,
+        } => Err(stop(alloc, Code::E04, "[")),
+        Expr::Formula { left: _, right: _ } => Err(stop(alloc, Code::E04, "~")),
+    }
+}
+
+#[cycle(eval)]
+fn eval_sign<V: Vars, L: Ledger>(
+    alloc: Global,
+    op: UnOp,
+    e: &Expr,
+    s: &Scope<'_, V>,
+    steps: &mut Steps<L>,
+) -> Result<Valued, EvalFail>
+    requires { IsScope s.now }
+    ensures { AnswersAs valued_of (then_do (value_in e.now (env_of V.bound s.now)) (signed op)) result }
+{
+    let value = eval(alloc, e, s, steps)?;
+    signed(alloc, op, &value, steps)
+}
+
+#[cycle(eval)]
+fn eval_tails<V: Vars, L: Ledger>(
+    alloc: Global,
+    first: Valued,
+    rest: &[Tail],
+    s: &Scope<'_, V>,
+    steps: &mut Steps<L>,
+) -> Result<Valued, EvalFail>
+    requires { IsScope s.now }
+    ensures { AnswersAs valued_of (value_tails (env_of V.bound s.now) (valued_of first) (map tail_meaning rest.now)) result }
+{
+    let mut value = first;
+    for t in rest {
+        value = eval_tail(alloc, value, t, s, steps)?;
+    }
+    Ok(value)
+}
+
+#[cycle(eval)]
+fn eval_tail<V: Vars, L: Ledger>(
+    alloc: Global,
+    left: Valued,
+    t: &Tail,
+    s: &Scope<'_, V>,
+    steps: &mut Steps<L>,
+) -> Result<Valued, EvalFail>
+    requires { IsScope s.now }
+    ensures { AnswersAs valued_of (value_tail (env_of V.bound s.now) (valued_of left) (tail_meaning t.now)) result }
+{
+    let right = eval(alloc, &t.arg, s, steps)?;
+    met(alloc, t.op, &left, &right, steps)
+}
+
+#[cycle(eval)]
+fn eval_call<V: Vars, L: Ledger>(
+    alloc: Global,
+    name: &str,
+    args: &[Arg],
+    s: &Scope<'_, V>,
+    steps: &mut Steps<L>,
+) -> Result<Valued, EvalFail>
+    requires { IsScope s.now }
+    ensures { AnswersAs valued_of (value_call (env_of V.bound s.now) name.now (map arg_meaning args.now)) result }
+{
+    match func_named(name) {
+        None => Err(later_call(alloc, name)),
+        Some(f) => eval_kind(alloc, f, args, s, steps),
+    }
+}
+
+/// The call of a function: a table function is E04 and a command E19, at once.
+#[cycle(eval)]
+fn eval_kind<V: Vars, L: Ledger>(
+    alloc: Global,
+    f: Func,
+    args: &[Arg],
+    s: &Scope<'_, V>,
+    steps: &mut Steps<L>,
+) -> Result<Valued, EvalFail>
+    requires { IsScope s.now }
+    ensures { AnswersAs valued_of (value_kind (kind_of f) (env_of V.bound s.now) f (map arg_meaning args.now)) result }
+{
+    match kind_of(f) {
+        Kind::Table => Err(stop(alloc, Code::E04, func_word(f))),
+        Kind::Command => Err(stop(alloc, Code::E19, func_word(f))),
+        Kind::Vector => eval_bound(alloc, f, args, s, steps),
+        Kind::Description => eval_description(alloc, f, args, s),
+    }
+}
+
+fn eval_description<V: Vars>(
+    alloc: Global,
+    f: Func,
+    args: &[Arg],
+    s: &Scope<'_, V>,
+) -> Result<Valued, EvalFail>
+    ensures { AnswersAs valued_of (value_kind Kind.Description (env_of V.bound s.now) f (map arg_meaning args.now)) result }
+{
+    bind_call(alloc, f, args)?;
+    let table = table_given(alloc, s, args)?;
+    description(alloc, f, table)
+}
+
+#[cycle(eval)]
+fn eval_bound<V: Vars, L: Ledger>(
+    alloc: Global,
+    f: Func,
+    args: &[Arg],
+    s: &Scope<'_, V>,
+    steps: &mut Steps<L>,
+) -> Result<Valued, EvalFail>
+    requires { IsScope s.now }
+    ensures { AnswersAs valued_of (value_kind Kind.Vector (env_of V.bound s.now) f (map arg_meaning args.now)) result }
+{
+    bind_call(alloc, f, args)?;
+    match arity_of(f) {
+        Arity::Unnamed => eval_each(alloc, args, s, steps),
+        Arity::Fixed => eval_fixed(alloc, f, args, s, steps),
+        Arity::Columns => Err(stop(alloc, Code::E19, "unbuilt")),
+    }
+}
+
+/// All arguments in a row.
+#[cycle(eval)]
+fn eval_each<V: Vars, L: Ledger>(
+    alloc: Global,
+    args: &[Arg],
+    s: &Scope<'_, V>,
+    steps: &mut Steps<L>,
+) -> Result<Valued, EvalFail>
+    requires { IsScope s.now }
+    ensures { AnswersAs valued_of (then_do (each (λ m. m.value (env_of V.bound s.now)) [] (map arg_meaning args.now)) combined) result }
+{
+    let values = values_of_each(alloc, args, s, steps)?;
+    combined(alloc, values.as_slice(), steps)
+}
+
+#[cycle(eval)]
+fn values_of_each<V: Vars, L: Ledger>(
+    alloc: Global,
+    args: &[Arg],
+    s: &Scope<'_, V>,
+    steps: &mut Steps<L>,
+) -> Result<Vec<Valued>, EvalFail>
+    requires { IsScope s.now }
+    ensures { AnswersAs (λ v. map valued_of v.items) (each (λ m. m.value (env_of V.bound s.now)) [] (map arg_meaning args.now)) result }
+{
+    let mut done = Vec::new(alloc);
+    for a in args {
+        let value = eval(alloc, &a.value, s, steps)?;
+        add(&mut done, value)?;
+    }
+    Ok(done)
+}
+
+#[cycle(eval)]
+fn eval_fixed<V: Vars, L: Ledger>(
+    alloc: Global,
+    f: Func,
+    args: &[Arg],
+    s: &Scope<'_, V>,
+    steps: &mut Steps<L>,
+) -> Result<Valued, EvalFail>
+    requires { IsScope s.now }
+    ensures { AnswersAs valued_of (value_vectors Arity.Fixed (env_of V.bound s.now) f (map arg_meaning args.now)) result }
+{
+    let given = eval_formals(alloc, formals(f), args, s, steps)?;
+    applied(alloc, f, given.as_slice(), steps)
+}
+
+#[cycle(eval)]
+fn eval_formals<V: Vars, L: Ledger>(
+    alloc: Global,
+    ps: &[Formal],
+    args: &[Arg],
+    s: &Scope<'_, V>,
+    steps: &mut Steps<L>,
+) -> Result<Vec<Slot<Valued>>, EvalFail>
+    requires scope { IsScope s.now }
+    requires few { length ps.now < 1000 }
+    ensures { AnswersAs (λ v. map slot_of v.items) (slots (λ m. m.value (env_of V.bound s.now)) (map arg_meaning args.now) [] (places (arg_names (map arg_meaning args.now)) 0 ps.now)) result }
+{
+    let mut done = Vec::new(alloc);
+    let mut before = 0;
+    for p in ps {
+        let slot = eval_formal(alloc, *p, before, args, s, steps)?;
+        add(&mut done, slot)?;
+        before = next_in(args, before, *p);
+    }
+    Ok(done)
+}
+
+#[cycle(eval)]
+fn eval_formal<V: Vars, L: Ledger>(
+    alloc: Global,
+    p: Formal,
+    before: usize,
+    args: &[Arg],
+    s: &Scope<'_, V>,
+    steps: &mut Steps<L>,
+) -> Result<Slot<Valued>, EvalFail>
+    requires { IsScope s.now }
+    ensures { AnswersAs slot_of (slot_at (λ m. m.value (env_of V.bound s.now)) p (arg_at (map arg_meaning args.now) (place_of (arg_names (map arg_meaning args.now)) before p))) result }
+{
+    match place_in(args, before, p) {
+        None => Ok(Slot::Absent),
+        Some(i) => match args.get(i) {
+            None => Ok(Slot::Absent),
+            Some(a) => eval_as(alloc, p, a, s, steps),
+        },
+    }
+}
+
+#[cycle(eval)]
+fn eval_as<V: Vars, L: Ledger>(
+    alloc: Global,
+    p: Formal,
+    a: &Arg,
+    s: &Scope<'_, V>,
+    steps: &mut Steps<L>,
+) -> Result<Slot<Valued>, EvalFail>
+    requires { IsScope s.now }
+    ensures { AnswersAs slot_of (slot_as (λ m. m.value (env_of V.bound s.now)) p (is_flag p) (arg_meaning a.now).means) result }
+{
+    if is_flag(p) {
+        eval_flag(alloc, p, &a.value)
+    } else {
+        eval_given(alloc, a, s, steps)
+    }
+}
+
+fn eval_flag(alloc: Global, p: Formal, e: &Expr) -> Result<Slot<Valued>, EvalFail>
+    ensures { AnswersAs slot_of (flag_slot p (meaning e.now).form) result }
+{
+    match flag_given::<Valued>(alloc, p, e) {
+        Ok(slot) => Ok(slot),
+        Err(fail) => Err(fail),
+    }
+}
+
+#[cycle(eval)]
+fn eval_given<V: Vars, L: Ledger>(
+    alloc: Global,
+    a: &Arg,
+    s: &Scope<'_, V>,
+    steps: &mut Steps<L>,
+) -> Result<Slot<Valued>, EvalFail>
+    requires { IsScope s.now }
+    ensures { AnswersAs slot_of (given ((arg_meaning a.now).means.value (env_of V.bound s.now))) result }
+{
+    Ok(Slot::Given(eval(alloc, &a.value, s, steps)?))
+}

@@ -1,0 +1,324 @@
+-- What an expression means: its type, and its value.
+--   Meaning             an expression: what it is as written, its type and its value in surroundings
+--   ArgMeaning          an argument: its name, and the meaning of its value
+--   TailMeaning         an operator, and the meaning of its right side
+--   slots run args ..   what a call gives for each formal, by `run`, which is a type's or a value's
+--   check_call, value_call     the type and the value of a call
+--   meaning e           the meaning of an expression
+--   check_of e s        its type in the surroundings s, or its first fault
+--   value_in e s        its value there with its warnings, or its first fault
+-- Faults come left to right, and what stands inside an expression comes before the expression. A type
+-- depends on no cell. A value repeats the faults of types.
+use Rattle.std.specs.Prelude.{ℕ, ℤ, neg_ℤ, ◌+◌, cond, Bool, true, false, List, [], ◌∷◌, ◌++◌, map, Option, None, Some, Result, Ok, Err, codes, slice_get}
+use Rattle.dt_base.specs.declared.cell.Cell.{Cell}
+use Rattle.dt_base.specs.declared.cell.Cell.TheVariants as is
+use Rattle.dt_base.specs.declared.cell.ColType.{ColType}
+use Rattle.dt_base.specs.declared.fault.Fault.{Fault}
+use Rattle.dt_base.specs.declared.fault.Code.TheVariants.{E02, E04, E19}
+use Rattle.dt_base.specs.Fault.{fault}
+use Rattle.dt_base.specs.declared.operators.UnOp.{UnOp}
+use Rattle.dt_base.specs.declared.operators.UnOp.TheVariants as un
+use Rattle.dt_base.specs.declared.warns.Warns.{Warns}
+use Rattle.dt_base.specs.Warns.{no_warns, both_warns}
+use Rattle.dt_model.specs.Table.{PlainTable}
+use Rattle.dt_model.specs.Vector.{Vector}
+use Rattle.dt_tree.specs.declared.tree.Arg.{Arg}
+use Rattle.dt_tree.specs.declared.tree.BinOp.{BinOp}
+use Rattle.dt_tree.specs.declared.tree.Expr.{Expr, fold-Expr}
+use Rattle.dt_tree.specs.declared.tree.Expr.TheFolds.{fold-Arg, fold-Tail}
+use Rattle.dt_tree.specs.declared.tree.Expr.TheOpen.{Expr-F, Arg-F, Tail-F}
+use Rattle.dt_tree.specs.declared.tree.Tail.{Tail}
+use Rattle.func_table.specs.declared.formal.Formal.{Formal}
+use Rattle.func_table.specs.declared.formal.Formal.TheVariants as formal
+use Rattle.func_table.specs.declared.func.Arity.{Arity}
+use Rattle.func_table.specs.declared.func.Arity.TheVariants.{Fixed, Columns, Unnamed}
+use Rattle.func_table.specs.declared.func.Func.{Func}
+use Rattle.func_table.specs.declared.func.Kind.{Kind}
+use Rattle.func_table.specs.declared.func.Kind.TheVariants as kind
+use Rattle.func_table.specs.declared.func.Later.{Later}
+use Rattle.func_table.specs.declared.func.Later.TheVariants as later
+use Rattle.func_table.specs.declared.slot.Slot.{Slot}
+use Rattle.func_table.specs.declared.slot.Slot.TheVariants.{Given, Flag, Absent}
+use Rattle.func_table.specs.Calls.{func_of, word_of, kind_of, arity_of, formals_of, name_of, is_flag, later_of}
+use Rattle.session_model.specs.Binding.{ArgNames, bound, places, place_of}
+use Rattle.session_model.specs.Form.{Form, Literal, Negative, NullWord, InfWord, BareName, Other, literal_cell, negative, name_in}
+use Rattle.session_model.specs.Then.{then_do}
+use Rattle.vector_model.specs.Combine.{common_of, joined}
+use Rattle.vector_model.specs.Functions.{Valued}
+use Rattle.expr_model.specs.Functions.{unserved, with_warns, type_of, value_of, description_type, description_of}
+use Rattle.expr_model.specs.Operators.{tail_type, tail_value, sign_type, sign_value}
+use Rattle.expr_model.specs.Surroundings.{Env, one_cell, name_vector, var_table}
+
+-- An expression: what it is as written; and in surroundings its type, and its value with its
+-- warnings, or the first fault.
+pub record Meaning : Type 0 where
+  pub form : Form
+  pub check : Env → Result ColType Fault
+  pub value : Env → Result Valued Fault
+
+-- an argument
+pub record ArgMeaning : Type 0 where
+  pub name : Option (List ℕ)
+  pub means : Meaning
+
+-- an operator and its right side
+pub record TailMeaning : Type 0 where
+  pub op : BinOp
+  pub means : Meaning
+
+-- a vector as a value, without warnings
+abbrev pub quiet : Result Vector Fault → Result Valued Fault
+quiet r = with_warns no_warns r
+
+-- the type of a vector
+abbrev pub kind_in : Result Vector Fault → Result ColType Fault
+kind_in r = then_do r (λ v. Ok v.kind)
+
+-- a value without its warnings
+abbrev pub vector_in : Valued → Vector
+vector_in v = v.vector
+
+-- ---- Chains of operators: from the left
+
+abbrev pub check_tail : Env → ColType → TailMeaning → Result ColType Fault
+check_tail s a t = then_do (t.means.check s) (λ b. tail_type t.op a b)
+
+abbrev pub check_tails : Env → ColType → List TailMeaning → Result ColType Fault
+check_tails s a [] = Ok a
+check_tails s a (t ∷ rest) = then_do (check_tail s a t) (λ b. check_tails s b rest)
+
+-- what an operator gives for two values, with the warnings of both
+abbrev pub met : BinOp → Valued → Valued → Result Valued Fault
+met o a b = with_warns (both_warns a.warns b.warns) (tail_value o a.vector b.vector)
+
+abbrev pub value_tail : Env → Valued → TailMeaning → Result Valued Fault
+value_tail s a t = then_do (t.means.value s) (λ b. met t.op a b)
+
+abbrev pub value_tails : Env → Valued → List TailMeaning → Result Valued Fault
+value_tails s a [] = Ok a
+value_tails s a (t ∷ rest) = then_do (value_tail s a t) (λ b. value_tails s b rest)
+
+-- what `-` or `!` gives for a value
+abbrev pub signed : UnOp → Valued → Result Valued Fault
+signed o a = with_warns a.warns (sign_value o a.vector)
+
+-- ---- Arguments
+
+abbrev pub arg_name : ArgMeaning → Option (List ℕ)
+arg_name a = a.name
+
+-- the names of arguments, as written
+abbrev pub arg_names : List ArgMeaning → ArgNames
+arg_names args = map arg_name args
+
+-- the argument at a place
+abbrev pub arg_at : List ArgMeaning → Option ℕ → Option ArgMeaning
+arg_at args None = None
+arg_at args (Some i) = slice_get args i
+
+-- a flag is TRUE or FALSE, as written
+abbrev pub flag_slot : {A : Type 0} → Formal → Form → Result (Slot A) Fault
+flag_slot p (Literal (is.Lgl b) kind) = Ok (Flag b)
+flag_slot p _ = Err (fault E19 (name_of p))
+
+abbrev pub given : {A : Type 0} → Result A Fault → Result (Slot A) Fault
+given r = then_do r (λ x. Ok (Given x))
+
+-- what an argument gives for its formal: a flag, or what `run` makes of it
+abbrev pub slot_as : {A : Type 0} → (Meaning → Result A Fault) → Formal → Bool → Meaning → Result (Slot A) Fault
+slot_as run p true m = flag_slot p m.form
+slot_as run p false m = given (run m)
+
+-- a formal that is left out has an empty slot
+abbrev pub slot_at : {A : Type 0} → (Meaning → Result A Fault) → Formal → Option ArgMeaning → Result (Slot A) Fault
+slot_at run p None = Ok Absent
+slot_at run p (Some a) = slot_as run p (is_flag p) a.means
+
+-- the slots of these formals behind those that are done, or the first fault in their order
+abbrev pub slots : {A : Type 0} → (Meaning → Result A Fault) → List ArgMeaning → List (Slot A) → List (Formal × Option ℕ) → Result (List (Slot A)) Fault
+slots run args done [] = Ok done
+slots run args done (x ∷ rest) =
+    then_do (slot_at run x.0 (arg_at args x.1)) (λ slot. slots run args (done ++ slot ∷ []) rest)
+
+-- what each formal of a function is given
+abbrev pub all_slots : {A : Type 0} → (Meaning → Result A Fault) → Func → List ArgMeaning → Result (List (Slot A)) Fault
+all_slots run f args = slots run args [] (places (arg_names args) 0 (formals_of f))
+
+-- what `run` makes of each argument, behind those that are done, or the first fault
+abbrev pub each : {A : Type 0} → (Meaning → Result A Fault) → List A → List ArgMeaning → Result (List A) Fault
+each run done [] = Ok done
+each run done (a ∷ rest) = then_do (run a.means) (λ x. each run (done ++ x ∷ []) rest)
+
+-- the table of the argument D, which is a name as written
+abbrev pub table_at : Env → Option (List ℕ) → Result PlainTable Fault
+table_at s None = Err (fault E19 (name_of formal.D))
+table_at s (Some name) = var_table name (s.vars name)
+
+abbrev pub table_in : Env → Option ArgMeaning → Result PlainTable Fault
+table_in s None = Err (fault E19 (name_of formal.D))
+table_in s (Some a) = table_at s (name_in a.means.form)
+
+abbrev pub table_of : Env → List ArgMeaning → Result PlainTable Fault
+table_of s args = table_in s (arg_at args (place_of (arg_names args) 0 formal.D))
+
+-- ---- Calls
+
+-- a call that gives no vector, of a function that is not served
+abbrev pub later_fault : List ℕ → Option Later → Fault
+later_fault name None = fault E02 name
+later_fault name (Some later.Vector) = unserved
+later_fault name (Some later.NoVector) = fault E04 name
+later_fault name (Some later.Command) = fault E19 name
+
+-- a function on vectors, once its arguments are bound
+abbrev pub check_vectors : Arity → Env → Func → List ArgMeaning → Result ColType Fault
+check_vectors Unnamed s f args = then_do (each (λ m. m.check s) [] args) (λ kinds. Ok (common_of kinds))
+check_vectors Fixed s f args = then_do (all_slots (λ m. m.check s) f args) (type_of f)
+check_vectors Columns s f args = Err unserved
+
+-- A table function is a fault of the type, and a command a bad argument, without a look at arguments.
+-- Else the binding of arguments comes first.
+abbrev pub check_kind : Kind → Env → Func → List ArgMeaning → Result ColType Fault
+check_kind kind.Table s f args = Err (fault E04 (word_of f))
+check_kind kind.Command s f args = Err (fault E19 (word_of f))
+check_kind kind.Vector s f args = then_do (bound f (arg_names args)) (λ _. check_vectors (arity_of f) s f args)
+check_kind kind.Description s f args =
+    then_do (bound f (arg_names args)) (λ _. then_do (table_of s args) (λ t. description_type f))
+
+abbrev pub check_named : Env → List ℕ → Option Func → List ArgMeaning → Result ColType Fault
+check_named s name None args = Err (later_fault name (later_of name))
+check_named s name (Some f) args = check_kind (kind_of f) s f args
+
+abbrev pub check_call : Env → List ℕ → List ArgMeaning → Result ColType Fault
+check_call s name args = check_named s name (func_of name) args
+
+-- the vectors of slots
+abbrev pub slot_vector : Slot Valued → Slot Vector
+slot_vector (Given v) = Given v.vector
+slot_vector (Flag b) = Flag b
+slot_vector Absent = Absent
+
+abbrev pub slot_warns : Slot Valued → Warns
+slot_warns (Given v) = v.warns
+slot_warns _ = no_warns
+
+-- the warnings of all slots, beside these
+abbrev pub all_warns : Warns → List (Slot Valued) → Warns
+all_warns w [] = w
+all_warns w (x ∷ rest) = all_warns (both_warns w (slot_warns x)) rest
+
+-- a value, and more warnings
+abbrev pub warned_too : Warns → Result Valued Fault → Result Valued Fault
+warned_too w r = then_do r (λ v. Ok (record { vector = v.vector; warns = both_warns w v.warns }))
+
+-- a function's value, with the warnings of its arguments
+abbrev pub applied : Func → List (Slot Valued) → Result Valued Fault
+applied f given = warned_too (all_warns no_warns given) (value_of f (map slot_vector given))
+
+-- the warnings of all values, beside these
+abbrev pub warns_of_all : Warns → List Valued → Warns
+warns_of_all w [] = w
+warns_of_all w (v ∷ rest) = warns_of_all (both_warns w v.warns) rest
+
+-- `c` of values, with their warnings
+abbrev pub combined : List Valued → Result Valued Fault
+combined vs = with_warns (warns_of_all no_warns vs) (joined (map vector_in vs))
+
+abbrev pub value_vectors : Arity → Env → Func → List ArgMeaning → Result Valued Fault
+value_vectors Unnamed s f args = then_do (each (λ m. m.value s) [] args) combined
+value_vectors Fixed s f args = then_do (all_slots (λ m. m.value s) f args) (applied f)
+value_vectors Columns s f args = Err unserved
+
+abbrev pub value_kind : Kind → Env → Func → List ArgMeaning → Result Valued Fault
+value_kind kind.Table s f args = Err (fault E04 (word_of f))
+value_kind kind.Command s f args = Err (fault E19 (word_of f))
+value_kind kind.Vector s f args = then_do (bound f (arg_names args)) (λ _. value_vectors (arity_of f) s f args)
+value_kind kind.Description s f args =
+    then_do (bound f (arg_names args)) (λ _. then_do (table_of s args) (λ t. quiet (description_of f t)))
+
+abbrev pub value_named : Env → List ℕ → Option Func → List ArgMeaning → Result Valued Fault
+value_named s name None args = Err (later_fault name (later_of name))
+value_named s name (Some f) args = value_kind (kind_of f) s f args
+
+abbrev pub value_call : Env → List ℕ → List ArgMeaning → Result Valued Fault
+value_call s name args = value_named s name (func_of name) args
+
+-- ---- Expressions
+
+-- an expression that is no vector
+abbrev pub refused : Form → List ℕ → Meaning
+refused form word =
+    record { form = form; check = λ s. Err (fault E04 word); value = λ s. Err (fault E04 word) }
+
+-- what `-` before this form writes
+abbrev pub minus_form : Option ℤ → Form
+minus_form None = Other
+minus_form (Some n) = Negative n
+
+-- `-` or `!` before an expression
+abbrev pub sign_of : UnOp → Form → Meaning → Meaning
+sign_of o form arg =
+    record {
+      form = form;
+      check = λ s. then_do (arg.check s) (sign_type o);
+      value = λ s. then_do (arg.value s) (signed o);
+    }
+
+abbrev pub expr_step : Expr-F Meaning (Unit {0}) ArgMeaning (Unit {0}) TailMeaning → Meaning
+expr_step (Expr-F.Lit cell kind) =
+    record {
+      form = Literal (literal_cell kind cell) kind;
+      check = λ s. Ok kind;
+      value = λ s. quiet (Ok (one_cell kind (literal_cell kind cell)));
+    }
+expr_step Expr-F.Null = refused NullWord (codes "NULL")
+expr_step Expr-F.Infinite = refused InfWord (codes "Inf")
+expr_step (Expr-F.Name name) =
+    record {
+      form = BareName name;
+      check = λ s. kind_in (name_vector s name);
+      value = λ s. quiet (name_vector s name);
+    }
+expr_step (Expr-F.Paren inner) = record { form = Other; check = inner.check; value = inner.value }
+expr_step (Expr-F.Minus arg) = sign_of un.Neg (minus_form (negative arg.form)) arg
+expr_step (Expr-F.Not arg) = sign_of un.Not Other arg
+expr_step (Expr-F.Chain first rest) =
+    record {
+      form = Other;
+      check = λ s. then_do (first.check s) (λ a. check_tails s a rest);
+      value = λ s. then_do (first.value s) (λ a. value_tails s a rest);
+    }
+expr_step (Expr-F.Call name args) =
+    record { form = Other; check = λ s. check_call s name args; value = λ s. value_call s name args }
+expr_step (Expr-F.Query head brackets) = refused Other (codes "[")
+expr_step (Expr-F.Formula left right) = refused Other (codes "~")
+
+-- a bracket and what stands as its j give no vector by themselves
+abbrev pub nothing : {A : Type 0} → A → Unit {0}
+nothing x = tt
+
+abbrev pub arg_step : Arg-F Meaning (Unit {0}) ArgMeaning (Unit {0}) TailMeaning → ArgMeaning
+arg_step a = record { name = a.name; means = a.value }
+
+abbrev pub tail_step : Tail-F Meaning (Unit {0}) ArgMeaning (Unit {0}) TailMeaning → TailMeaning
+tail_step t = record { op = t.op; means = t.arg }
+
+-- the meaning of an expression
+abbrev pub meaning : Expr → Meaning
+meaning = fold-Expr Meaning (Unit {0}) ArgMeaning (Unit {0}) TailMeaning expr_step nothing arg_step nothing tail_step
+
+-- the meaning of an argument
+abbrev pub arg_meaning : Arg → ArgMeaning
+arg_meaning = fold-Arg Meaning (Unit {0}) ArgMeaning (Unit {0}) TailMeaning expr_step nothing arg_step nothing tail_step
+
+-- the meaning of an operator and its right side
+abbrev pub tail_meaning : Tail → TailMeaning
+tail_meaning = fold-Tail Meaning (Unit {0}) ArgMeaning (Unit {0}) TailMeaning expr_step nothing arg_step nothing tail_step
+
+-- the type of an expression in its surroundings, or its first fault
+abbrev pub check_of : Expr → Env → Result ColType Fault
+check_of e s = (meaning e).check s
+
+-- its value in these surroundings, or its first fault
+abbrev pub value_in : Expr → Env → Result Valued Fault
+value_in e s = (meaning e).value s

@@ -1,0 +1,118 @@
+-- What an expression meets, and what a name gives there.
+--   Var                  what a script's name is bound to: a table, or a vector
+--   Columns              columns side by side, with their names
+--   Env                  the surroundings of an expression
+--   integer n            the vector of one integer
+--   column_named q t     the column of the name q, if there is one
+--   var_vector code q b  the vector that a script's name gives, or its fault; `code` for an unknown name
+--   special_vector s p   what a special name gives
+--   name_vector s q      what the name q gives where a vector is wanted, or its fault
+--   var_table q b        the table that a script's name gives where one is wanted, or its fault
+use Rattle.std.specs.Prelude.{ℕ, ◌+◌, ◌==◌, pos, Bool, if◌then◌else◌, List, [], ◌∷◌, map, Option, None, Some, Result, Ok, Err, codes, slice_get}
+use Rattle.dt_base.specs.declared.cell.Cell.{Cell}
+use Rattle.dt_base.specs.declared.cell.Cell.TheVariants as is
+use Rattle.dt_base.specs.declared.cell.ColType.{ColType}
+use Rattle.dt_base.specs.declared.cell.ColType.TheVariants as ty
+use Rattle.dt_base.specs.declared.fault.Fault.{Fault}
+use Rattle.dt_base.specs.declared.fault.Code.{Code}
+use Rattle.dt_base.specs.declared.fault.Code.TheVariants.{E02, E03, E04, E20}
+use Rattle.dt_base.specs.Fault.{fault}
+use Rattle.dt_model.specs.Table.{PlainTable, place_of}
+use Rattle.dt_model.specs.Vector.{Vector as Cells}
+use Rattle.func_table.specs.declared.special.Special.{Special}
+use Rattle.func_table.specs.declared.special.Special.TheVariants.{Count, Places, Group, Rows}
+use Rattle.func_table.specs.Special.{special_of}
+
+-- a table, or a vector
+pub data Var : Type 0 where
+  Table : PlainTable → Var
+  Vector : Cells → Var
+
+-- columns side by side, with their names
+pub record Columns : Type 0 where
+  pub names : List (List ℕ)
+  pub vectors : List Cells
+
+-- The surroundings of an expression: whether it stands in a bracket; the columns of its rows; the
+-- columns of the one row that all rows share, as a group's; where each row stands in the table, counted
+-- from 0, or none for a row of NA; the number of rows; the number of the group, counted from 1, or 0
+-- where there are no groups; and the script's names.
+pub record Env : Type 0 where
+  pub inside : Bool
+  pub rows : Columns
+  pub single : Columns
+  pub places : List (Option ℕ)
+  pub count : ℕ
+  pub group : ℕ
+  pub vars : List ℕ → Option Var
+
+-- a vector of one cell
+abbrev pub one_cell : ColType → Cell → Cells
+one_cell kind cell = record { kind = kind; cells = cell ∷ [] }
+
+-- the vector of one integer
+abbrev pub integer : ℕ → Cells
+integer n = one_cell ty.Int (is.Int (pos n))
+
+-- ---- Columns and the script's names
+
+abbrev pub vector_at : List Cells → Option ℕ → Option Cells
+vector_at vectors None = None
+vector_at vectors (Some c) = slice_get vectors c
+
+-- the column of this name
+abbrev pub column_named : List ℕ → Columns → Option Cells
+column_named name t = vector_at t.vectors (place_of name t.names)
+
+-- the column that was found, or else
+abbrev pub found_or : Option Cells → Result Cells Fault → Result Cells Fault
+found_or (Some v) r = Ok v
+found_or None r = r
+
+-- Where a vector is wanted a table is a fault of the type. An unknown name has the fault that its
+-- place in the script gives it.
+abbrev pub var_vector : Code → List ℕ → Option Var → Result Cells Fault
+var_vector code name None = Err (fault code name)
+var_vector code name (Some (Table t)) = Err (fault E04 name)
+var_vector code name (Some (Vector v)) = Ok v
+
+-- in a bracket columns come before the script's names, and the shared row's before the rows'
+abbrev pub bracket_vector : Env → List ℕ → Result Cells Fault
+bracket_vector s name =
+    found_or (column_named name s.single) (found_or (column_named name s.rows) (var_vector E03 name (s.vars name)))
+
+-- ---- The special names of a bracket
+
+-- a row's number, counted from 1; NA of a row of NA
+abbrev pub row_number : Option ℕ → Cell
+row_number None = is.Na
+row_number (Some p) = is.Int (pos (p + 1))
+
+-- the group's number; where there are no groups it is an unknown column
+abbrev pub group_vector : ℕ → Result Cells Fault
+group_vector n = if n == 0 then Err (fault E03 (codes ".GRP")) else Ok (integer n)
+
+-- `.N`, `.I`, `.GRP`, and `.SD`, which is a table
+abbrev pub special_vector : Env → Special → Result Cells Fault
+special_vector s Count = Ok (integer s.count)
+special_vector s Places = Ok (record { kind = ty.Int; cells = map row_number s.places })
+special_vector s Group = group_vector s.group
+special_vector s Rows = Err (fault E04 (codes ".SD"))
+
+-- a special name keeps its meaning where a column has that name
+abbrev pub special_or : Env → List ℕ → Option Special → Result Cells Fault
+special_or s name (Some p) = special_vector s p
+special_or s name None = bracket_vector s name
+
+-- ---- Names
+
+-- outside brackets there are the script's names alone
+abbrev pub name_vector : Env → List ℕ → Result Cells Fault
+name_vector s name =
+    if s.inside then special_or s name (special_of name) else var_vector E02 name (s.vars name)
+
+-- where the name of a table is wanted there are the script's names alone, in brackets too
+abbrev pub var_table : List ℕ → Option Var → Result PlainTable Fault
+var_table name None = Err (fault E02 name)
+var_table name (Some (Vector v)) = Err (fault E20 name)
+var_table name (Some (Table t)) = Ok t
