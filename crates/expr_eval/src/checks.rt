@@ -5,7 +5,7 @@ ghost use Rattle.expr_model.specs.Meaning.{meaning, arg_meaning, tail_meaning, a
 ghost use Rattle.expr_model.specs.Operators.{sign_type};
 ghost use Rattle.func_table.specs.Calls.{arity_of, formals_of, func_of, is_flag, kind_of};
 ghost use Rattle.session_model.specs.Binding.{places, place_of};
-ghost use Rattle.session_model.specs.Then.{then_do};
+ghost use Rattle.vector_model.specs.Then.{then_do};
 ghost use Rattle.vector_model.specs.Combine.{common_of};
 
 use crate::arguments::{add, bind_call, flag_given, later_call, next_in, place_in, table_given};

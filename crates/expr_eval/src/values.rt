@@ -5,7 +5,7 @@ ghost use Rattle.expr_eval.specs.Slots.{slot_of};
 ghost use Rattle.expr_model.specs.Meaning.{meaning, arg_meaning, tail_meaning, arg_names, arg_at, flag_slot, value_in, value_tail, value_tails, signed, given, slot_as, slot_at, slots, each, combined, value_vectors, value_kind, value_call};
 ghost use Rattle.func_table.specs.Calls.{is_flag, kind_of};
 ghost use Rattle.session_model.specs.Binding.{places, place_of};
-ghost use Rattle.session_model.specs.Then.{then_do};
+ghost use Rattle.vector_model.specs.Then.{then_do};
 ghost use Rattle.vec_funcs.specs.Valued.{valued_of};
 
 use crate::applied::{applied, combined};

@@ -1,4 +1,6 @@
 pub mod Functions
-pub mod Meaning
+pub mod Lengths
 pub mod Operators
+pub mod Rows
 pub mod Surroundings
+pub mod Unbuilt

@@ -7,7 +7,7 @@
 --   tail_value o a b     the vector that it gives for two vectors, or its first fault
 --   range a b            `a:b`: each whole number from the one to the other
 --   unary_word o, sign_type o t, sign_value o a     the same for `-` and `!` before a value
-use Rattle.std.specs.Prelude.{ℕ, ◌+◌, ◌==◌, ℤ, pos, ◌+ℤ◌, ◌-ℤ◌, unsigned_abs, Bool, true, false, not, nat_lt, if◌then◌else◌, List, [], length, map, Option, None, Some, Result, Ok, Err, codes}
+use Rattle.std.specs.Prelude.{ℕ, ◌+◌, ◌==◌, ℤ, pos, ◌+ℤ◌, ◌-ℤ◌, unsigned_abs, nat_lt, if◌then◌else◌, List, [], length, map, Option, None, Some, Result, Ok, Err, codes}
 use Rattle.std.specs.Int.{is_negative}
 use Rattle.std.specs.List.{range_with_len}
 use Rattle.dt_base.specs.declared.cell.Cell.{Cell}
@@ -25,7 +25,7 @@ use Rattle.dt_model.specs.Operations.{OpFault, BadType, Length, Overflow, TooMan
 use Rattle.dt_model.specs.Vector.{Vector, cell_at}
 use Rattle.dt_tree.specs.declared.tree.BinOp.{BinOp}
 use Rattle.dt_tree.specs.declared.tree.BinOp.TheVariants.{Arith, In, Range}
-use Rattle.session_model.specs.Then.{then_do}
+use Rattle.vector_model.specs.Then.{then_do}
 
 -- an operator as it is written
 abbrev pub op_word : Op → List ℕ

@@ -2,13 +2,18 @@
 --   Var                  what a script's name is bound to: a table, or a vector
 --   Columns              columns side by side, with their names
 --   Env                  the surroundings of an expression
+--   Vars                 what the script's names are bound to
+--   columns_in t         the columns of a table, with their names
+--   columns_at c places  the same columns with these rows
+--   outside vars         what an expression meets outside brackets
+--   in_rows c places vars    what it meets in a bracket, over these rows
 --   integer n            the vector of one integer
 --   column_named q t     the column of the name q, if there is one
 --   var_vector code q b  the vector that a script's name gives, or its fault; `code` for an unknown name
 --   special_vector s p   what a special name gives
 --   name_vector s q      what the name q gives where a vector is wanted, or its fault
 --   var_table q b        the table that a script's name gives where one is wanted, or its fault
-use Rattle.std.specs.Prelude.{ℕ, ◌+◌, ◌==◌, pos, Bool, if◌then◌else◌, List, [], ◌∷◌, map, Option, None, Some, Result, Ok, Err, codes, slice_get}
+use Rattle.std.specs.Prelude.{ℕ, ◌+◌, ◌==◌, pos, Bool, true, false, if◌then◌else◌, List, [], ◌∷◌, length, map, Option, None, Some, Result, Ok, Err, codes, slice_get}
 use Rattle.dt_base.specs.declared.cell.Cell.{Cell}
 use Rattle.dt_base.specs.declared.cell.Cell.TheVariants as is
 use Rattle.dt_base.specs.declared.cell.ColType.{ColType}
@@ -17,10 +22,11 @@ use Rattle.dt_base.specs.declared.fault.Fault.{Fault}
 use Rattle.dt_base.specs.declared.fault.Code.{Code}
 use Rattle.dt_base.specs.declared.fault.Code.TheVariants.{E02, E03, E04, E20}
 use Rattle.dt_base.specs.Fault.{fault}
-use Rattle.dt_model.specs.Table.{PlainTable, place_of}
-use Rattle.dt_model.specs.Vector.{Vector as Cells}
+use Rattle.dt_model.specs.Table.{PlainTable, ColumnHead, column_of, place_of}
+use Rattle.dt_model.specs.Vector.{Vector as Cells, gathered}
+use Rattle.expr_model.specs.Rows.{Places}
 use Rattle.func_table.specs.declared.special.Special.{Special}
-use Rattle.func_table.specs.declared.special.Special.TheVariants.{Count, Places, Group, Rows}
+use Rattle.func_table.specs.declared.special.Special.TheVariants as special
 use Rattle.func_table.specs.Special.{special_of}
 
 -- a table, or a vector
@@ -33,6 +39,10 @@ pub record Columns : Type 0 where
   pub names : List (List ℕ)
   pub vectors : List Cells
 
+-- what the script's names are bound to
+abbrev pub Vars : Type 0
+Vars = List ℕ → Option Var
+
 -- The surroundings of an expression: whether it stands in a bracket; the columns of its rows; the
 -- columns of the one row that all rows share, as a group's; where each row stands in the table, counted
 -- from 0, or none for a row of NA; the number of rows; the number of the group, counted from 1, or 0
@@ -41,10 +51,10 @@ pub record Env : Type 0 where
   pub inside : Bool
   pub rows : Columns
   pub single : Columns
-  pub places : List (Option ℕ)
+  pub places : Places
   pub count : ℕ
   pub group : ℕ
-  pub vars : List ℕ → Option Var
+  pub vars : Vars
 
 -- a vector of one cell
 abbrev pub one_cell : ColType → Cell → Cells
@@ -53,6 +63,32 @@ one_cell kind cell = record { kind = kind; cells = cell ∷ [] }
 -- the vector of one integer
 abbrev pub integer : ℕ → Cells
 integer n = one_cell ty.Int (is.Int (pos n))
+
+-- ---- The columns of a table, and surroundings
+
+-- the columns from place c on, each with its cells row by row
+abbrev pub vectors_from : ℕ → List ColumnHead → List (List Cell) → List Cells
+vectors_from c [] rows = []
+vectors_from c (h ∷ rest) rows = record { kind = h.kind; cells = column_of c rows } ∷ vectors_from (c + 1) rest rows
+
+abbrev pub columns_in : PlainTable → Columns
+columns_in t = record { names = map (λ h. h.name) t.columns; vectors = vectors_from 0 t.columns t.rows }
+
+-- the same columns with the rows at these places, and NA for none
+abbrev pub columns_at : Columns → Places → Columns
+columns_at t places = record { names = t.names; vectors = map (λ v. gathered v places) t.vectors }
+
+abbrev pub no_columns : Columns
+no_columns = record { names = []; vectors = [] }
+
+-- outside brackets there are the script's names alone
+abbrev pub outside : Vars → Env
+outside vars = record { inside = false; rows = no_columns; single = no_columns; places = []; count = 0; group = 0; vars = vars }
+
+-- in a bracket without groups there are columns, whose rows stand at these places of the table
+abbrev pub in_rows : Columns → Places → Vars → Env
+in_rows t places vars =
+    record { inside = true; rows = t; single = no_columns; places = places; count = length places; group = 0; vars = vars }
 
 -- ---- Columns and the script's names
 
@@ -94,10 +130,10 @@ group_vector n = if n == 0 then Err (fault E03 (codes ".GRP")) else Ok (integer 
 
 -- `.N`, `.I`, `.GRP`, and `.SD`, which is a table
 abbrev pub special_vector : Env → Special → Result Cells Fault
-special_vector s Count = Ok (integer s.count)
-special_vector s Places = Ok (record { kind = ty.Int; cells = map row_number s.places })
-special_vector s Group = group_vector s.group
-special_vector s Rows = Err (fault E04 (codes ".SD"))
+special_vector s special.Count = Ok (integer s.count)
+special_vector s special.Places = Ok (record { kind = ty.Int; cells = map row_number s.places })
+special_vector s special.Group = group_vector s.group
+special_vector s special.Rows = Err (fault E04 (codes ".SD"))
 
 -- a special name keeps its meaning where a column has that name
 abbrev pub special_or : Env → List ℕ → Option Special → Result Cells Fault

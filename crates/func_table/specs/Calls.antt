@@ -8,9 +8,10 @@
 --   name_of p       the name of a formal
 --   is_needed p     a call lacks something without it
 --   is_flag p       it is TRUE or FALSE, as written
---   is_later w      the language has a function w, and no statement serves it yet
---   later_of w      what w is, where nothing serves it yet
-use Rattle.std.specs.Prelude.{Bool, true, false, cond, List, ℕ, [], ◌∷◌, Option, None, Some, codes}
+--   is_later w      the language has a call of the name w, and nothing serves it yet
+--   is_list w       w names the list of a bracket, `.( )` or `list( )`
+--   later_of w      what a call of w is, where no function of that name is served
+use Rattle.std.specs.Prelude.{◌||◌, Bool, true, false, cond, List, ℕ, [], ◌∷◌, Option, None, Some, codes}
 use Rattle.std.specs.List.{list_any}
 use Rattle.std.specs.Str.{bytes_eq}
 use Rattle.func_table.specs.declared.func.Func.{Func}
@@ -131,37 +132,33 @@ abbrev pub is_flag : Formal → Bool
 is_flag formal.NaRm = true
 is_flag _ = false
 
--- the names of functions and commands that no statement serves yet
-abbrev pub later_words : List (List ℕ)
-later_words =
-    codes "c" ∷ codes "is.na" ∷ codes "fifelse" ∷ codes "as.logical" ∷ codes "as.integer" ∷ codes "as.character"
-    ∷ codes "sum" ∷ codes "min" ∷ codes "max" ∷ codes "any" ∷ codes "all" ∷ codes "first" ∷ codes "last" ∷ codes "length"
-    ∷ codes "cumsum" ∷ codes "shift" ∷ codes "rleid" ∷ codes "frank" ∷ codes "nrow" ∷ codes "ncol" ∷ codes "names"
-    ∷ codes "key" ∷ codes "indices" ∷ codes "lapply" ∷ codes "order" ∷ codes "." ∷ codes "list" ∷ codes "J"
-    ∷ codes "melt" ∷ codes "dcast" ∷ codes "foverlaps"
-    ∷ codes "set" ∷ codes "setkey" ∷ codes "setindex" ∷ codes "setorder" ∷ codes "setnames" ∷ codes "options" ∷ []
-
-abbrev pub is_later : List ℕ → Bool
-is_later w = list_any (bytes_eq w) later_words
-
 -- functions that give a vector and that nothing serves yet
 abbrev pub later_vectors : List (List ℕ)
 later_vectors = codes "cumsum" ∷ codes "shift" ∷ codes "rleid" ∷ codes "frank" ∷ []
 
 -- functions that give a table, and words that stand only where a rule of their own says
-abbrev pub no_vectors : List (List ℕ)
-no_vectors =
+abbrev pub later_places : List (List ℕ)
+later_places =
     codes "melt" ∷ codes "dcast" ∷ codes "foverlaps"
-    ∷ codes "key" ∷ codes "indices" ∷ codes "lapply" ∷ codes "order" ∷ codes "." ∷ codes "list" ∷ codes "J" ∷ []
+    ∷ codes "key" ∷ codes "indices" ∷ codes "lapply" ∷ codes "order" ∷ codes "J" ∷ []
 
 -- whole statements
 abbrev pub later_commands : List (List ℕ)
 later_commands =
     codes "set" ∷ codes "setkey" ∷ codes "setindex" ∷ codes "setorder" ∷ codes "setnames" ∷ codes "options" ∷ []
 
--- what a call of this name is, where nothing serves it yet
+-- the language has a call of this name, and nothing serves it yet
+abbrev pub is_later : List ℕ → Bool
+is_later w =
+    list_any (bytes_eq w) later_vectors || (list_any (bytes_eq w) later_places || list_any (bytes_eq w) later_commands)
+
+-- the list of a bracket, under both of its names
+abbrev pub is_list : List ℕ → Bool
+is_list w = bytes_eq w (codes ".") || bytes_eq w (codes "list")
+
+-- what a call of this name is, where nothing serves it as a function; a list stands in brackets alone
 abbrev pub later_of : List ℕ → Option Later
 later_of w =
     cond (list_any (bytes_eq w) later_vectors) (Some later.Vector)
-    (cond (list_any (bytes_eq w) no_vectors) (Some later.NoVector)
+    (cond (is_list w || list_any (bytes_eq w) later_places) (Some later.NoVector)
     (cond (list_any (bytes_eq w) later_commands) (Some later.Command) None))

@@ -1,5 +1,5 @@
 ghost use Rattle.std.specs.Prelude.{◌≡◌};
-ghost use Rattle.func_table.specs.Calls.{func_of, word_of, kind_of, arity_of, formals_of, is_later, later_of};
+ghost use Rattle.func_table.specs.Calls.{func_of, word_of, kind_of, arity_of, formals_of, is_later, is_list, later_of};
 
 use crate::Formal;
 
@@ -169,22 +169,30 @@ pub fn formals(f: Func) -> &'static [Formal]
     }
 }
 
-/// Whether the language has a function of this name that no statement serves yet.
+/// Whether the language has a call of this name that nothing serves yet.
 pub fn is_later(name: &str) -> bool
     ensures { result ≡ is_later name.now }
 {
     match name {
-        "c" | "is.na" | "fifelse" | "as.logical" | "as.integer" | "as.character" => true,
-        "sum" | "min" | "max" | "any" | "all" | "first" | "last" | "length" => true,
-        "cumsum" | "shift" | "rleid" | "frank" | "nrow" | "ncol" | "names" => true,
-        "key" | "indices" | "lapply" | "order" | "." | "list" | "J" => true,
+        "cumsum" | "shift" | "rleid" | "frank" => true,
+        "key" | "indices" | "lapply" | "order" | "J" => true,
         "melt" | "dcast" | "foverlaps" => true,
         "set" | "setkey" | "setindex" | "setorder" | "setnames" | "options" => true,
         _ => false,
     }
 }
 
-/// What a call of this name is, where the language has one that nothing serves yet.
+/// Whether this names the list of a bracket, `.( )` or `list( )`.
+pub fn is_list(name: &str) -> bool
+    ensures { result ≡ is_list name.now }
+{
+    match name {
+        "." | "list" => true,
+        _ => false,
+    }
+}
+
+/// What a call of this name is, where the language has one that is no served function.
 pub fn later_named(name: &str) -> Option<Later>
     ensures { result ≡ later_of name.now }
 {

@@ -19,7 +19,7 @@ use Rattle.func_table.specs.declared.func.Arity.{Arity}
 use Rattle.func_table.specs.declared.func.Arity.TheVariants.{Fixed, Columns, Unnamed}
 use Rattle.func_table.specs.declared.formal.Formal.{Formal}
 use Rattle.func_table.specs.Calls.{arity_of, formals_of, is_needed, name_of, word_of}
-use Rattle.session_model.specs.Then.{then_do}
+use Rattle.vector_model.specs.Then.{then_do}
 
 -- the names of the arguments, as written
 abbrev pub ArgNames : Type 0

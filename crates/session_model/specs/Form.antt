@@ -1,6 +1,7 @@
 -- What an expression is as written, where an argument wants a form and not a value.
 --   literal_cell kind cell   the cell of a literal of this type
---   Form          a literal, the negative of an integer literal, `NULL`, `Inf`, a bare name, or else
+--   Form          a literal, the negative of an integer literal, `NULL`, `Inf`, a bare name, `!` before
+--                 a bare name, or else
 --   negative f    the integer that `-` before this form writes, if it is an integer literal
 --   is_literal f  the form is a literal, with `-` before an integer allowed
 --   text_in f     the text of a text literal; NA is none
@@ -26,6 +27,7 @@ pub data Form : Type 0 where
   NullWord : Form
   InfWord : Form
   BareName : List ℕ → Form
+  NotName : List ℕ → Form
   Other : Form
 
 -- what `-` before an integer literal writes

@@ -1,9 +1,13 @@
 pub mod Binding
+pub mod Calls
+pub mod Columns
 pub mod Effect
 pub mod Evaluation
+pub mod Expression
 pub mod Form
 pub mod Meaning
+pub mod Meanings
+pub mod Query
 pub mod Statement
-pub mod Then
 pub mod Value
 pub mod World

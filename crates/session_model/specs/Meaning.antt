@@ -1,282 +1,297 @@
--- What expressions and calls mean.
---   Meaning             an expression: its form, whether it is served, what it gives, and what it
---                       does where it is the call of a command
---   ArgMeaning          an argument: its name, and the meaning of its value
---   data_table args     what `data.table` gives
---   table_call f        what the call of a table function gives
---   command f           what the call of a command does
---   call_served         whether statements serve a call
---   meaning e           the meaning of an expression
--- A form that no statement serves yet has the fault `unbuilt`; `served` tells it before anything
--- else is looked at.
-use Rattle.std.specs.Prelude.{ℕ, ℤ, is_some, ◌+◌, ◌&&◌, not, cond, Bool, true, false, List, [], ◌∷◌, length, max, map, Option, None, Some, Result, Ok, Err, codes, decimal, slice_get}
+-- The meaning of a tree: one fold over expressions, arguments and brackets.
+--   vector form ..       an expression that is a vector wherever it stands
+--   call_of name args    the call of a function, a command, or a list
+--   meaning e            the meaning of an expression
+--   arg_meaning a, tail_meaning t, bracket_meaning b    those of its parts
+--   check_of e s         the type of an expression in its surroundings, or its first fault
+--   value_in e s         its value there, or its first fault
+-- A form that nothing serves yet has the fault `unbuilt`; `served` tells it before anything else of a
+-- statement is looked at.
+use Rattle.std.specs.Prelude.{ℕ, ℤ, ◌&&◌, not, Bool, true, false, List, [], ◌∷◌, Option, None, Some, Result, Ok, Err, codes, if◌then◌else◌}
 use Rattle.std.specs.List.{list_all}
 use Rattle.std.specs.Str.{bytes_eq}
 use Rattle.std.specs.FinMap as finite
-use Rattle.dt_base.specs.declared.cell.Cell.TheVariants as is
-use Rattle.dt_base.specs.declared.cell.ColType.TheVariants as ty
+use Rattle.dt_base.specs.declared.cell.Cell.{Cell}
+use Rattle.dt_base.specs.declared.cell.ColType.{ColType}
 use Rattle.dt_base.specs.declared.fault.Fault.{Fault}
-use Rattle.dt_base.specs.declared.fault.Code.TheVariants.{E02, E04, E19}
+use Rattle.dt_base.specs.declared.fault.Code.TheVariants.{E04, E19}
 use Rattle.dt_base.specs.Fault.{fault}
-use Rattle.dt_base.specs.Warns.{no_warns}
-use Rattle.dt_model.specs.Vector.{Vector}
-use Rattle.dt_tree.specs.declared.tree.Expr.{Expr, fold-Expr}
-use Rattle.dt_tree.specs.declared.tree.Expr.TheFolds.{fold-Arg}
-use Rattle.dt_tree.specs.declared.tree.Expr.TheOpen.{Expr-F, Arg-F}
+use Rattle.dt_base.specs.declared.operators.UnOp.{UnOp}
+use Rattle.dt_base.specs.declared.operators.UnOp.TheVariants as un
 use Rattle.dt_tree.specs.declared.tree.Arg.{Arg}
+use Rattle.dt_tree.specs.declared.tree.Bracket.{Bracket}
+use Rattle.dt_tree.specs.declared.tree.Expr.{Expr, fold-Expr}
+use Rattle.dt_tree.specs.declared.tree.Expr.TheFolds.{fold-Second, fold-Arg, fold-Bracket, fold-Tail}
+use Rattle.dt_tree.specs.declared.tree.Expr.TheOpen.{Expr-F, Second-F, Arg-F, Bracket-F, Tail-F}
+use Rattle.dt_tree.specs.declared.tree.Second.{Second}
+use Rattle.dt_tree.specs.declared.tree.Tail.{Tail}
 use Rattle.func_table.specs.declared.func.Func.{Func}
-use Rattle.func_table.specs.declared.func.Func.TheVariants as func
 use Rattle.func_table.specs.declared.func.Kind.{Kind}
 use Rattle.func_table.specs.declared.func.Kind.TheVariants as kind
-use Rattle.func_table.specs.declared.formal.Formal.{Formal}
-use Rattle.func_table.specs.declared.formal.Formal.TheVariants as formal
-use Rattle.func_table.specs.Calls.{func_of, word_of, kind_of, is_later}
-use Rattle.run_model.specs.Csv.{written_csv}
-use Rattle.dt_model.specs.State.{State, Bound}
-use Rattle.session_model.specs.Then.{then_do}
-use Rattle.session_model.specs.Form.{Form, Literal, Negative, NullWord, InfWord, BareName, Other, literal_cell, negative, is_literal, is_bare_name, text_in, name_in}
-use Rattle.session_model.specs.Binding.{ArgNames, bound, place_of, is_free}
-use Rattle.session_model.specs.Value.{Value, Numbered, New, Cells, Null, Given, Scene, gives_value, one_cell, bound_value, new_table, gives_table, file_table, wanted_table, copied, printed_value}
-use Rattle.session_model.specs.Effect.{Effect, Remove, prints, writes, changes, does_nothing}
+use Rattle.func_table.specs.Calls.{func_of, word_of, kind_of, is_later, is_list}
+use Rattle.func_table.specs.Special.{is_later_special}
+use Rattle.vector_model.specs.Functions.{Valued}
+use Rattle.vector_model.specs.Then.{then_do}
+use Rattle.expr_model.specs.Operators.{sign_type, sign_value}
+use Rattle.expr_model.specs.Surroundings.{Env, one_cell, name_vector, outside}
+use Rattle.session_model.specs.Binding.{bound}
+use Rattle.session_model.specs.Calls.{table_call, command_named}
+use Rattle.session_model.specs.Columns.{list_answer, text_columns, vector_answer}
+use Rattle.session_model.specs.Effect.{Effect}
+use Rattle.session_model.specs.Expression.{quiet, kind_in, signed, check_tails, value_tails, check_call, value_call, names_in}
+use Rattle.session_model.specs.Form.{Form, Literal, Negative, NullWord, InfWord, BareName, NotName, Other, literal_cell, negative, text_in}
+use Rattle.session_model.specs.Meanings.{Answer, Meaning, ArgMeaning, TailMeaning, SecondMeaning, Computes, Assigns, BracketMeaning}
+use Rattle.session_model.specs.Query.{vars_of, chained, bracket_served}
+use Rattle.session_model.specs.Value.{Cells, Null, Given, Scene, gives_value, bound_value}
 
--- An expression: what it is as written, whether statements serve all of its forms, and what it gives
--- as a value. The call of a command has what it does as a whole statement, with a name to assign to
--- or none.
-pub record Meaning : Type 0 where
-  pub form : Form
-  pub served : Bool
-  pub gives : Scene → Result Given Fault
-  pub command : Option (Option (List ℕ) → Scene → Result Effect Fault)
+-- the word of a bracket behind a value that has no name
+abbrev pub no_name : List ℕ
+no_name = codes "["
 
--- an argument
-pub record ArgMeaning : Type 0 where
-  pub name : Option (List ℕ)
-  pub means : Meaning
+-- ---- Vectors
 
--- the fault of a form that no statement serves yet
-abbrev pub unbuilt : Fault
-unbuilt = fault E19 (codes "unbuilt")
+-- a vector as a statement's value
+abbrev pub vector_given : Valued → Result Given Fault
+vector_given v = Ok (record { value = Cells v.vector; warns = v.warns })
 
--- ---- `data.table`
+-- an expression over the script's names: its type first, then its value
+abbrev pub vector_gives : (Env → Result ColType Fault) → (Env → Result Valued Fault) → Scene → Result Given Fault
+vector_gives check value w =
+    then_do (check (outside (vars_of w.state))) (λ _. then_do (value (outside (vars_of w.state))) vector_given)
 
--- The vector of a literal. The two words without a type are faults.
-abbrev pub literal_vector : Form → Result Vector Fault
-literal_vector (Literal cell kind) = Ok (one_cell kind cell)
-literal_vector (Negative n) = Ok (one_cell ty.Int (is.Int n))
-literal_vector NullWord = Err (fault E04 (codes "NULL"))
-literal_vector InfWord = Err (fault E04 (codes "Inf"))
-literal_vector _ = Err unbuilt
+-- an expression that is a vector wherever it stands
+abbrev pub vector : Form → (Bool → Bool) → (Env → Result ColType Fault) → (Env → Result Valued Fault) → Meaning
+vector form served check value =
+    record {
+      form = form;
+      called = no_name;
+      is_join = false;
+      served = served;
+      check = check;
+      value = value;
+      answer = vector_answer check value;
+      gives = vector_gives check value;
+      command = None;
+    }
 
--- a list, and one more in front
-abbrev pub onto : {A : Type 0} → A → Result (List A) Fault → Result (List A) Fault
-onto x (Ok xs) = Ok (x ∷ xs)
-onto x (Err f) = Err f
+-- an expression that is no vector: a fault with this word
+abbrev pub refused : Form → List ℕ → Meaning
+refused form word = vector form (λ inside. true) (λ s. Err (fault E04 word)) (λ s. Err (fault E04 word))
 
--- the vectors of arguments, or the first fault among them
-abbrev pub argument_vectors : List ArgMeaning → Result (List Vector) Fault
-argument_vectors [] = Ok []
-argument_vectors (a ∷ rest) = then_do (literal_vector a.means.form) (λ v. onto v (argument_vectors rest))
+-- what `-` before this form writes
+abbrev pub minus_form : Option ℤ → Form
+minus_form None = Other
+minus_form (Some n) = Negative n
 
--- A column has the name that is written, and else V and its place, counted from 1. No script writes
--- an empty name; in a tree it counts as none.
-abbrev pub column_name : ℕ → Option (List ℕ) → List ℕ
-column_name p (Some (byte ∷ rest)) = byte ∷ rest
-column_name p _ = 86 ∷ decimal p
+-- what `!` before this form writes
+abbrev pub not_form : Form → Form
+not_form (BareName name) = NotName name
+not_form _ = Other
 
--- the names of columns, of which the first stands at place p
-abbrev pub column_names : ℕ → List ArgMeaning → List (List ℕ)
-column_names p [] = []
-column_names p (a ∷ rest) = column_name p a.name ∷ column_names (p + 1) rest
+-- `-` or `!` before an expression; `!` before a join is one too
+abbrev pub sign_of : UnOp → Form → Bool → Meaning → Meaning
+sign_of o form joins arg =
+    record (vector form arg.served (λ s. then_do (arg.check s) (sign_type o)) (λ s. then_do (arg.value s) (signed o))) {
+      is_join = joins;
+    }
 
--- the greatest length among vectors; of none it is 0
-abbrev pub longest : List Vector → ℕ
-longest [] = 0
-longest (v ∷ rest) = max (length v.cells) (longest rest)
+-- ---- What gives columns as the j of a bracket
 
--- `data.table` of literals: a table of one row
-abbrev pub data_table : List ArgMeaning → Result Given Fault
-data_table args =
-    then_do (argument_vectors args) (λ vectors.
-    then_do (new_table (column_names 1 args) (longest vectors) vectors) gives_table)
+-- texts are the names of columns; anything else is a vector
+abbrev pub texts_or : Option (List (List ℕ)) → (Env → Result Answer Fault) → Env → Result Answer Fault
+texts_or None other = other
+texts_or (Some names) other = text_columns names
 
--- ---- Forms of arguments
+-- one text literal is a list of one text
+abbrev pub one_text : Option (List ℕ) → Option (List (List ℕ))
+one_text None = None
+one_text (Some text) = Some (text ∷ [])
 
--- a file's name is a text literal
-abbrev pub named_file : Form → Result (List ℕ) Fault
-named_file form = elim (text_in form) [ None ↦ Err (fault E19 (codes "file")) | Some file ↦ Ok file ]
+-- a text in front of texts, where neither has a name
+abbrev pub with_text : Option (List ℕ) → Option (List ℕ) → Option (List (List ℕ)) → Option (List (List ℕ))
+with_text None (Some text) (Some rest) = Some (text ∷ rest)
+with_text _ _ _ = None
 
--- a package's name stands bare, and there is one
-abbrev pub package_named : Option (List ℕ) → Result Effect Fault
-package_named None = Err (fault E19 (codes "package"))
-package_named (Some name) = cond (bytes_eq name (codes "data.table")) (Ok does_nothing) (Err (fault E19 (codes "package")))
+-- the texts of arguments that all are text literals without a name
+abbrev pub texts_from : List ArgMeaning → Option (List (List ℕ))
+texts_from [] = Some []
+texts_from (a ∷ rest) = with_text a.name (text_in a.means.form) (texts_from rest)
 
-abbrev pub known_package : Form → Result Effect Fault
-known_package form = package_named (name_in form)
+-- of these there is one or more
+abbrev pub texts_in : List ArgMeaning → Option (List (List ℕ))
+texts_in [] = None
+texts_in (a ∷ rest) = texts_from (a ∷ rest)
 
--- a name stands bare
-abbrev pub bare_name : Form → Result (List ℕ) Fault
-bare_name form = elim (name_in form) [ None ↦ Err (fault E19 (codes "name")) | Some name ↦ Ok name ]
+-- the vector of a call
+abbrev pub call_vector : List ℕ → List ArgMeaning → Env → Result Answer Fault
+call_vector name args = vector_answer (λ s. check_call s name args) (λ s. value_call s name args)
+
+abbrev pub call_answer : List ℕ → List ArgMeaning → Env → Result Answer Fault
+call_answer name args =
+    if is_list name then list_answer name args
+    else (if bytes_eq name (codes "c") then texts_or (texts_in args) (call_vector name args) else call_vector name args)
 
 -- ---- Calls
 
-abbrev pub arg_name : ArgMeaning → Option (List ℕ)
-arg_name a = a.name
+-- the vector of a call as a statement's value
+abbrev pub call_given : List ℕ → List ArgMeaning → Scene → Result Given Fault
+call_given name args = vector_gives (λ s. check_call s name args) (λ s. value_call s name args)
 
--- the names of arguments, as written
-abbrev pub names_in : List ArgMeaning → ArgNames
-names_in args = map arg_name args
+-- A command gives no value, without a look at its arguments; of a table function the binding comes
+-- first; anything else is a vector.
+abbrev pub kind_gives : Kind → List ℕ → Func → List ArgMeaning → Scene → Result Given Fault
+kind_gives kind.Command name f args w = Err (fault E19 (word_of f))
+kind_gives kind.Table name f args w = then_do (bound f (names_in args)) (λ _. table_call f args w)
+kind_gives _ name f args w = call_given name args w
 
--- the argument at a place
-abbrev pub arg_at : List ArgMeaning → Option ℕ → Option ArgMeaning
-arg_at args None = None
-arg_at args (Some i) = slice_get args i
+abbrev pub call_gives : List ℕ → Option Func → List ArgMeaning → Scene → Result Given Fault
+call_gives name None args w = call_given name args w
+call_gives name (Some f) args w = kind_gives (kind_of f) name f args w
 
--- a call whose arguments are bound has one for each formal
-abbrev pub there : Option ArgMeaning → Result Meaning Fault
-there None = Err unbuilt
-there (Some a) = Ok a.means
+-- as an i, a list and a table function are joins
+abbrev pub is_table_kind : Kind → Bool
+is_table_kind kind.Table = true
+is_table_kind _ = false
 
--- the argument that a formal takes, where `before` formals before it are free
-abbrev pub argument : List ArgMeaning → ℕ → Formal → Result Meaning Fault
-argument args before p = there (arg_at args (place_of (names_in args) before p))
+abbrev pub is_table_call : Option Func → Bool
+is_table_call None = false
+is_table_call (Some f) = is_table_kind (kind_of f)
 
--- what `copy` of an expression gives
-abbrev pub copy_of : Meaning → Scene → Result Given Fault
-copy_of a w =
-    then_do (a.gives w) (λ g.
-    then_do (wanted_table w.state g.value) (λ t. gives_table (copied t)))
+abbrev pub call_joins : List ℕ → Bool
+call_joins name = if is_list name then true else is_table_call (func_of name)
 
--- a table function, once its arguments are bound
-abbrev pub table_call : Func → List ArgMeaning → Scene → Result Given Fault
-table_call func.DataTable args w = data_table args
-table_call func.Fread args w =
-    then_do (argument args 0 formal.File) (λ a. then_do (named_file a.form) (file_table w.files))
-table_call func.Copy args w = then_do (argument args 0 formal.Table) (λ a. copy_of a w)
-table_call _ args w = Err unbuilt
+abbrev pub call_served : List ℕ → List ArgMeaning → Bool → Bool
+call_served name args inside = not (is_later name) && list_all (λ a. a.means.served inside) args
 
--- A command gives no value. Statements serve no function on vectors and none that tells of a table.
-abbrev pub call_of_kind : Kind → Func → List ArgMeaning → Scene → Result Given Fault
-call_of_kind kind.Command f args w = Err (fault E19 (word_of f))
-call_of_kind kind.Vector f args w = Err unbuilt
-call_of_kind kind.Description f args w = Err unbuilt
-call_of_kind kind.Table f args w = then_do (bound f (names_in args)) (λ _. table_call f args w)
-
--- the function's name comes before its arguments
-abbrev pub call_value : List ℕ → Option Func → List ArgMeaning → Scene → Result Given Fault
-call_value name None args w = Err (fault E02 name)
-call_value name (Some f) args w = call_of_kind (kind_of f) f args w
-
--- `data.table` is served of literals, and `copy` of a bare name
-abbrev pub fits_args : Option Func → List ArgMeaning → Bool
-fits_args (Some func.DataTable) args = list_all (λ a. is_literal a.means.form) args
-fits_args (Some func.Copy) args = list_all (λ a. is_bare_name a.means.form) args
-fits_args _ args = true
-
--- a call is served where its function is, and each argument, and its arguments are of that form
-abbrev pub call_served : List ℕ → List ArgMeaning → Bool
-call_served name args = not (is_later name) && (list_all (λ a. a.means.served) args && fits_args (func_of name) args)
-
--- ---- Commands
-
--- NULL is no value of an argument
-abbrev pub not_null : Value → Result Effect Fault → Result Effect Fault
-not_null Null r = Err (fault E04 (codes "NULL"))
-not_null _ r = r
-
--- what prints: any value but NULL
-abbrev pub printed_given : State → Given → Result Effect Fault
-printed_given s g = not_null g.value (Ok (prints (printed_value s g.value) g.warns))
-
--- the table is written as a file
-abbrev pub written_given : State → Given → Form → Result Effect Fault
-written_given s g file =
-    then_do (wanted_table s g.value) (λ t.
-    then_do (named_file file) (λ name. Ok (writes name (written_csv t) g.warns)))
-
--- a name that is bound is removed
-abbrev pub removed_name : List ℕ → Option Bound → Result Effect Fault
-removed_name name None = Err (fault E02 name)
-removed_name name (Some b) = Ok (changes (Remove name))
-
--- a command, once its arguments are bound
-abbrev pub command : Func → List ArgMeaning → Scene → Result Effect Fault
-command func.Library args w = then_do (argument args 0 formal.Package) (λ a. known_package a.form)
-command func.Print args w =
-    then_do (argument args 0 formal.Value) (λ a. then_do (a.gives w) (printed_given w.state))
-command func.Fwrite args w =
-    then_do (argument args 0 formal.Table) (λ a.
-    then_do (a.gives w) (λ g.
-    then_do (argument args (cond (is_free (names_in args) formal.Table) 1 0) formal.File) (λ b.
-    written_given w.state g b.form)))
-command func.Rm args w =
-    then_do (argument args 0 formal.Name) (λ a.
-    then_do (bare_name a.form) (λ name. removed_name name (finite.get w.state.names name)))
-command _ args w = Err unbuilt
-
--- a command's call: the faults of binding come first
-abbrev pub bound_command : Func → List ArgMeaning → Scene → Result Effect Fault
-bound_command f args w = then_do (bound f (names_in args)) (λ _. command f args w)
-
--- A command is a whole statement; with a name to assign to it is refused.
-abbrev pub command_step : Func → List ArgMeaning → Option (List ℕ) → Scene → Result Effect Fault
-command_step f args None w = bound_command f args w
-command_step f args (Some name) w = Err (fault E19 (word_of f))
-
--- what the call of a command does as a whole statement
-abbrev pub command_of : Kind → Func → List ArgMeaning → Option (Option (List ℕ) → Scene → Result Effect Fault)
-command_of kind.Command f args = Some (command_step f args)
-command_of _ f args = None
-
-abbrev pub command_named : Option Func → List ArgMeaning → Option (Option (List ℕ) → Scene → Result Effect Fault)
-command_named None args = None
-command_named (Some f) args = command_of (kind_of f) f args
-
--- ---- Expressions
-
-abbrev pub unserved : Meaning
-unserved = record { form = Other; served = false; gives = λ w. Err unbuilt; command = None }
-
--- what `-` before an integer literal gives
-abbrev pub negative_value : Option ℤ → Result Given Fault
-negative_value None = Err unbuilt
-negative_value (Some n) = gives_value (Cells (one_cell ty.Int (is.Int n)))
-
-abbrev pub negative_form : Option ℤ → Form
-negative_form None = Other
-negative_form (Some n) = Negative n
-
--- `-` before an integer literal; before anything else it is not served
-abbrev pub negated : Option ℤ → Meaning
-negated n = record { form = negative_form n; served = is_some n; gives = λ w. negative_value n; command = None }
-
-abbrev pub expr_step : Expr-F Meaning Meaning ArgMeaning Meaning Meaning → Meaning
-expr_step (Expr-F.Lit cell kind) =
+abbrev pub call_of : List ℕ → List ArgMeaning → Meaning
+call_of name args =
     record {
-      form = Literal (literal_cell kind cell) kind;
-      served = true;
-      gives = λ w. gives_value (Cells (one_cell kind (literal_cell kind cell)));
+      form = Other;
+      called = no_name;
+      is_join = call_joins name;
+      served = call_served name args;
+      check = λ s. check_call s name args;
+      value = λ s. value_call s name args;
+      answer = call_answer name args;
+      gives = call_gives name (func_of name) args;
+      command = command_named (func_of name) args;
+    }
+
+-- ---- Names, literals, parentheses and queries
+
+abbrev pub name_of : List ℕ → Meaning
+name_of name =
+    record {
+      form = BareName name;
+      called = name;
+      is_join = false;
+      served = λ inside. not (inside && is_later_special name);
+      check = λ s. kind_in (name_vector s name);
+      value = λ s. quiet (name_vector s name);
+      answer = vector_answer (λ s. kind_in (name_vector s name)) (λ s. quiet (name_vector s name));
+      gives = λ w. bound_value name (finite.get w.state.names name);
       command = None;
     }
-expr_step Expr-F.Null = record { form = NullWord; served = true; gives = λ w. gives_value Null; command = None }
-expr_step Expr-F.Infinite = record { form = InfWord; served = true; gives = λ w. Err (fault E04 (codes "Inf")); command = None }
-expr_step (Expr-F.Name name) =
-    record { form = BareName name; served = true; gives = λ w. bound_value name (finite.get w.state.names name); command = None }
-expr_step (Expr-F.Paren inner) = record { form = Other; served = inner.served; gives = inner.gives; command = None }
-expr_step (Expr-F.Minus arg) = negated (negative arg.form)
-expr_step (Expr-F.Call name args) =
-    record { form = Other; served = call_served name args; gives = call_value name (func_of name) args; command = command_named (func_of name) args }
-expr_step _ = unserved
 
-abbrev pub other_step : {A : Type 0} → A → Meaning
-other_step x = unserved
+abbrev pub literal_of : ColType → Cell → Meaning
+literal_of kind cell =
+    record {
+      form = Literal cell kind;
+      called = no_name;
+      is_join = false;
+      served = λ inside. true;
+      check = λ s. Ok kind;
+      value = λ s. quiet (Ok (one_cell kind cell));
+      answer = texts_or (one_text (text_in (Literal cell kind))) (vector_answer (λ s. Ok kind) (λ s. quiet (Ok (one_cell kind cell))));
+      gives = λ w. gives_value (Cells (one_cell kind cell));
+      command = None;
+    }
 
-abbrev pub arg_step : Arg-F Meaning Meaning ArgMeaning Meaning Meaning → ArgMeaning
+-- `NULL` is a value of a statement, and no vector
+abbrev pub null_word : Meaning
+null_word = record (refused NullWord (codes "NULL")) { gives = λ w. gives_value Null }
+
+-- Parentheses hide the form, and let through what is wanted as a statement's value, a head, a table
+-- and a join.
+abbrev pub paren_of : Meaning → Meaning
+paren_of inner =
+    record {
+      form = Other;
+      called = inner.called;
+      is_join = inner.is_join;
+      served = inner.served;
+      check = inner.check;
+      value = inner.value;
+      answer = vector_answer inner.check inner.value;
+      gives = inner.gives;
+      command = None;
+    }
+
+-- a query is no vector, whatever it gives
+abbrev pub query_of : Meaning → List BracketMeaning → Meaning
+query_of head brackets =
+    record (refused Other no_name) {
+      is_join = true;
+      served = λ inside. head.served inside && list_all bracket_served brackets;
+      gives = λ w. then_do (head.gives w) (λ g. chained w.state head.called g brackets);
+    }
+
+-- ---- The fold
+
+abbrev pub expr_step : Expr-F Meaning SecondMeaning ArgMeaning BracketMeaning TailMeaning → Meaning
+expr_step (Expr-F.Lit cell kind) = literal_of kind (literal_cell kind cell)
+expr_step Expr-F.Null = null_word
+expr_step Expr-F.Infinite = refused InfWord (codes "Inf")
+expr_step (Expr-F.Name name) = name_of name
+expr_step (Expr-F.Paren inner) = paren_of inner
+expr_step (Expr-F.Minus arg) = sign_of un.Neg (minus_form (negative arg.form)) false arg
+expr_step (Expr-F.Not arg) = sign_of un.Not (not_form arg.form) arg.is_join arg
+expr_step (Expr-F.Chain first rest) =
+    vector Other (λ inside. first.served inside && list_all (λ t. t.means.served inside) rest)
+      (λ s. then_do (first.check s) (λ a. check_tails s a rest))
+      (λ s. then_do (first.value s) (λ a. value_tails s a rest))
+expr_step (Expr-F.Call name args) = call_of name args
+expr_step (Expr-F.Query head brackets) = query_of head brackets
+expr_step (Expr-F.Formula left right) = record (refused Other (codes "~")) { served = λ inside. false }
+
+abbrev pub second_step : Second-F Meaning SecondMeaning ArgMeaning BracketMeaning TailMeaning → SecondMeaning
+second_step (Second-F.Value j) = Computes j
+second_step (Second-F.Assign left right) = Assigns
+second_step (Second-F.AssignAll args) = Assigns
+
+abbrev pub arg_step : Arg-F Meaning SecondMeaning ArgMeaning BracketMeaning TailMeaning → ArgMeaning
 arg_step a = record { name = a.name; means = a.value }
+
+abbrev pub bracket_step : Bracket-F Meaning SecondMeaning ArgMeaning BracketMeaning TailMeaning → BracketMeaning
+bracket_step b = record { first = b.first; second = b.second; third = b.third; args = b.args }
+
+abbrev pub tail_step : Tail-F Meaning SecondMeaning ArgMeaning BracketMeaning TailMeaning → TailMeaning
+tail_step t = record { op = t.op; means = t.arg }
 
 -- the meaning of an expression
 abbrev pub meaning : Expr → Meaning
-meaning = fold-Expr Meaning Meaning ArgMeaning Meaning Meaning expr_step other_step arg_step other_step other_step
+meaning = fold-Expr Meaning SecondMeaning ArgMeaning BracketMeaning TailMeaning expr_step second_step arg_step bracket_step tail_step
 
 -- the meaning of an argument
 abbrev pub arg_meaning : Arg → ArgMeaning
-arg_meaning = fold-Arg Meaning Meaning ArgMeaning Meaning Meaning expr_step other_step arg_step other_step other_step
+arg_meaning = fold-Arg Meaning SecondMeaning ArgMeaning BracketMeaning TailMeaning expr_step second_step arg_step bracket_step tail_step
+
+-- the meaning of an operator and its right side
+abbrev pub tail_meaning : Tail → TailMeaning
+tail_meaning = fold-Tail Meaning SecondMeaning ArgMeaning BracketMeaning TailMeaning expr_step second_step arg_step bracket_step tail_step
+
+-- the meaning of what stands as j
+abbrev pub second_meaning : Second → SecondMeaning
+second_meaning = fold-Second Meaning SecondMeaning ArgMeaning BracketMeaning TailMeaning expr_step second_step arg_step bracket_step tail_step
+
+-- the meaning of a bracket
+abbrev pub bracket_meaning : Bracket → BracketMeaning
+bracket_meaning = fold-Bracket Meaning SecondMeaning ArgMeaning BracketMeaning TailMeaning expr_step second_step arg_step bracket_step tail_step
+
+-- the type of an expression in its surroundings, or its first fault
+abbrev pub check_of : Expr → Env → Result ColType Fault
+check_of e s = (meaning e).check s
+
+-- its value in these surroundings, or its first fault
+abbrev pub value_in : Expr → Env → Result Valued Fault
+value_in e s = (meaning e).value s

@@ -3,17 +3,19 @@
 --   value_change q v    what binding the name q to a value changes
 --   assigned q g        a value with a name: the name is bound to it
 --   step files s stmt   the statement's effect, or its fault
-use Rattle.std.specs.Prelude.{ℕ, not, if◌then◌else◌, List, Option, None, Some, Result, Ok, Err}
+use Rattle.std.specs.Prelude.{ℕ, false, not, if◌then◌else◌, List, Option, None, Some, Result, Ok, Err}
 use Rattle.dt_base.specs.declared.fault.Fault.{Fault}
 use Rattle.dt_base.specs.declared.fault.Code.TheVariants.{E19}
 use Rattle.dt_base.specs.Fault.{fault}
 use Rattle.dt_model.specs.State.{State}
 use Rattle.dt_model.specs.State.{Table as NumberedTable, Vector as BoundVector}
 use Rattle.dt_tree.specs.declared.tree.Stmt.{Stmt}
-use Rattle.session_model.specs.Then.{then_do}
+use Rattle.vector_model.specs.Then.{then_do}
 use Rattle.session_model.specs.Value.{Value, Numbered, New, Cells, Null, Given, Look, Scene, printed_value}
 use Rattle.session_model.specs.Effect.{Effect, Change, BindNew, Bind, prints, changes_with}
-use Rattle.session_model.specs.Meaning.{Meaning, meaning, unbuilt}
+use Rattle.expr_model.specs.Unbuilt.{unbuilt}
+use Rattle.session_model.specs.Meaning.{meaning}
+use Rattle.session_model.specs.Meanings.{Meaning}
 
 -- a value that is given no name prints
 abbrev pub bare : State → Given → Result Effect Fault
@@ -43,5 +45,5 @@ step_of (Some does) target m w = does target w
 -- a statement with a form that is not served yet is refused before anything else is looked at
 abbrev pub step : Look → State → Stmt → Result Effect Fault
 step files s stmt =
-    if not (meaning stmt.expr).served then Err unbuilt
+    if not ((meaning stmt.expr).served false) then Err unbuilt
     else step_of (meaning stmt.expr).command stmt.target (meaning stmt.expr) (record { files = files; state = s })

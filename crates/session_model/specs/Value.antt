@@ -25,7 +25,7 @@ use Rattle.dt_model.specs.State.{State, Bound}
 use Rattle.dt_model.specs.State.{Table as NumberedTable, Vector as BoundVector}
 use Rattle.run_model.specs.Csv.{read_csv, FileFault, Ragged, NotUtf8, TooManyColumns, TooManyRows}
 use Rattle.run_model.specs.Printed.{printed_table, printed_vector, null_text}
-use Rattle.session_model.specs.Then.{then_do}
+use Rattle.vector_model.specs.Then.{then_do}
 
 -- a table that has a number, a new table, a vector, or NULL
 pub data Value : Type 0 where

@@ -7,7 +7,7 @@ ghost use Rattle.dt_table.specs.Plain.{plain};
 ghost use Rattle.run_model.specs.Csv.{written_csv};
 ghost use Rattle.session_model.specs.Binding.{is_free};
 ghost use Rattle.session_model.specs.Effect as model;
-ghost use Rattle.session_model.specs.Then.{then_do};
+ghost use Rattle.vector_model.specs.Then.{then_do};
 ghost use Rattle.stmt_value.specs.Fails.{IsNoMemory};
 ghost use Rattle.stmt_effect.specs.Effects.{plain_effect, FitsIn};
 ghost use Rattle.stmt_value.specs.Answers.{Gives, Blames};

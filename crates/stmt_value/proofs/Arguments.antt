@@ -6,7 +6,7 @@ use Rattle.arg_bind.specs.Answers as eval
 use Rattle.arg_bind.specs.declared.fail.EvalFail.{EvalFail}
 use Rattle.arg_bind.specs.declared.fail.EvalFail.TheVariants as eval_fail
 use Rattle.dt_base.specs.declared.fault.Fault.{Fault}
-use Rattle.session_model.specs.Then.{then_do}
+use Rattle.vector_model.specs.Then.{then_do}
 use Rattle.std.specs.Borrow.{Bor}
 use Rattle.dt_tree.specs.declared.tree.Expr.{Expr}
 use Rattle.stmt_value.specs.Values.{plain_given}

@@ -7,7 +7,7 @@ use Rattle.dt_model.specs.Vector.{Vector}
 use Rattle.dt_tree.specs.declared.tree.Arg.{Arg}
 use Rattle.na_vector.specs.Column.{Seen}
 use Rattle.na_vector.specs.Frame.{vectors_of}
-use Rattle.session_model.specs.Then.{then_do}
+use Rattle.vector_model.specs.Then.{then_do}
 use Rattle.session_model.specs.Meaning.{arg_meaning, literal_vector, argument_vectors, longest, onto}
 
 -- the vectors of r behind those that are done

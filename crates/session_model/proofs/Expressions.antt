@@ -22,7 +22,8 @@ use Rattle.vector_model.specs.Functions.{Valued, plain, warned}
 use Rattle.expr_model.specs.Functions.{type_of, value_of}
 use Rattle.expr_model.specs.Operators.{length_fault}
 use Rattle.expr_model.specs.Surroundings.{Var, Table, Vector, Env}
-use Rattle.expr_model.specs.Meaning.{Meaning, ArgMeaning, TailMeaning, expr_step}
+use Rattle.session_model.specs.Meaning.{expr_step}
+use Rattle.session_model.specs.Meanings.{Meaning, ArgMeaning, TailMeaning}
 
 -- ---- Expressions and surroundings
 

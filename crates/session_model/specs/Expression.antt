@@ -1,12 +1,7 @@
--- What an expression means: its type, and its value.
---   Meaning             an expression: what it is as written, its type and its value in surroundings
---   ArgMeaning          an argument: its name, and the meaning of its value
---   TailMeaning         an operator, and the meaning of its right side
+-- What expressions give where a vector is wanted: a type, and a value.
 --   slots run args ..   what a call gives for each formal, by `run`, which is a type's or a value's
+--   check_tails, value_tails   chains of operators
 --   check_call, value_call     the type and the value of a call
---   meaning e           the meaning of an expression
---   check_of e s        its type in the surroundings s, or its first fault
---   value_in e s        its value there with its warnings, or its first fault
 -- Faults come left to right, and what stands inside an expression comes before the expression. A type
 -- depends on no cell. A value repeats the faults of types.
 use Rattle.std.specs.Prelude.{ℕ, ℤ, neg_ℤ, ◌+◌, cond, Bool, true, false, List, [], ◌∷◌, ◌++◌, map, Option, None, Some, Result, Ok, Err, codes, slice_get}
@@ -41,30 +36,15 @@ use Rattle.func_table.specs.declared.slot.Slot.{Slot}
 use Rattle.func_table.specs.declared.slot.Slot.TheVariants.{Given, Flag, Absent}
 use Rattle.func_table.specs.Calls.{func_of, word_of, kind_of, arity_of, formals_of, name_of, is_flag, later_of}
 use Rattle.session_model.specs.Binding.{ArgNames, bound, places, place_of}
-use Rattle.session_model.specs.Form.{Form, Literal, Negative, NullWord, InfWord, BareName, Other, literal_cell, negative, name_in}
-use Rattle.session_model.specs.Then.{then_do}
+use Rattle.session_model.specs.Form.{Form, Literal, name_in}
+use Rattle.session_model.specs.Meanings.{Meaning, ArgMeaning, TailMeaning}
+use Rattle.vector_model.specs.Then.{then_do}
 use Rattle.vector_model.specs.Combine.{common_of, joined}
 use Rattle.vector_model.specs.Functions.{Valued}
-use Rattle.expr_model.specs.Functions.{unserved, with_warns, type_of, value_of, description_type, description_of}
+use Rattle.expr_model.specs.Functions.{with_warns, type_of, value_of, description_type, description_of}
 use Rattle.expr_model.specs.Operators.{tail_type, tail_value, sign_type, sign_value}
 use Rattle.expr_model.specs.Surroundings.{Env, one_cell, name_vector, var_table}
-
--- An expression: what it is as written; and in surroundings its type, and its value with its
--- warnings, or the first fault.
-pub record Meaning : Type 0 where
-  pub form : Form
-  pub check : Env → Result ColType Fault
-  pub value : Env → Result Valued Fault
-
--- an argument
-pub record ArgMeaning : Type 0 where
-  pub name : Option (List ℕ)
-  pub means : Meaning
-
--- an operator and its right side
-pub record TailMeaning : Type 0 where
-  pub op : BinOp
-  pub means : Meaning
+use Rattle.expr_model.specs.Unbuilt.{unbuilt}
 
 -- a vector as a value, without warnings
 abbrev pub quiet : Result Vector Fault → Result Valued Fault
@@ -108,8 +88,8 @@ abbrev pub arg_name : ArgMeaning → Option (List ℕ)
 arg_name a = a.name
 
 -- the names of arguments, as written
-abbrev pub arg_names : List ArgMeaning → ArgNames
-arg_names args = map arg_name args
+abbrev pub names_in : List ArgMeaning → ArgNames
+names_in args = map arg_name args
 
 -- the argument at a place
 abbrev pub arg_at : List ArgMeaning → Option ℕ → Option ArgMeaning
@@ -142,7 +122,7 @@ slots run args done (x ∷ rest) =
 
 -- what each formal of a function is given
 abbrev pub all_slots : {A : Type 0} → (Meaning → Result A Fault) → Func → List ArgMeaning → Result (List (Slot A)) Fault
-all_slots run f args = slots run args [] (places (arg_names args) 0 (formals_of f))
+all_slots run f args = slots run args [] (places (names_in args) 0 (formals_of f))
 
 -- what `run` makes of each argument, behind those that are done, or the first fault
 abbrev pub each : {A : Type 0} → (Meaning → Result A Fault) → List A → List ArgMeaning → Result (List A) Fault
@@ -158,15 +138,15 @@ abbrev pub table_in : Env → Option ArgMeaning → Result PlainTable Fault
 table_in s None = Err (fault E19 (name_of formal.D))
 table_in s (Some a) = table_at s (name_in a.means.form)
 
-abbrev pub table_of : Env → List ArgMeaning → Result PlainTable Fault
-table_of s args = table_in s (arg_at args (place_of (arg_names args) 0 formal.D))
+abbrev pub described_table : Env → List ArgMeaning → Result PlainTable Fault
+described_table s args = table_in s (arg_at args (place_of (names_in args) 0 formal.D))
 
 -- ---- Calls
 
 -- a call that gives no vector, of a function that is not served
 abbrev pub later_fault : List ℕ → Option Later → Fault
 later_fault name None = fault E02 name
-later_fault name (Some later.Vector) = unserved
+later_fault name (Some later.Vector) = unbuilt
 later_fault name (Some later.NoVector) = fault E04 name
 later_fault name (Some later.Command) = fault E19 name
 
@@ -174,16 +154,16 @@ later_fault name (Some later.Command) = fault E19 name
 abbrev pub check_vectors : Arity → Env → Func → List ArgMeaning → Result ColType Fault
 check_vectors Unnamed s f args = then_do (each (λ m. m.check s) [] args) (λ kinds. Ok (common_of kinds))
 check_vectors Fixed s f args = then_do (all_slots (λ m. m.check s) f args) (type_of f)
-check_vectors Columns s f args = Err unserved
+check_vectors Columns s f args = Err unbuilt
 
 -- A table function is a fault of the type, and a command a bad argument, without a look at arguments.
 -- Else the binding of arguments comes first.
 abbrev pub check_kind : Kind → Env → Func → List ArgMeaning → Result ColType Fault
 check_kind kind.Table s f args = Err (fault E04 (word_of f))
 check_kind kind.Command s f args = Err (fault E19 (word_of f))
-check_kind kind.Vector s f args = then_do (bound f (arg_names args)) (λ _. check_vectors (arity_of f) s f args)
+check_kind kind.Vector s f args = then_do (bound f (names_in args)) (λ _. check_vectors (arity_of f) s f args)
 check_kind kind.Description s f args =
-    then_do (bound f (arg_names args)) (λ _. then_do (table_of s args) (λ t. description_type f))
+    then_do (bound f (names_in args)) (λ _. then_do (described_table s args) (λ t. description_type f))
 
 abbrev pub check_named : Env → List ℕ → Option Func → List ArgMeaning → Result ColType Fault
 check_named s name None args = Err (later_fault name (later_of name))
@@ -227,14 +207,14 @@ combined vs = with_warns (warns_of_all no_warns vs) (joined (map vector_in vs))
 abbrev pub value_vectors : Arity → Env → Func → List ArgMeaning → Result Valued Fault
 value_vectors Unnamed s f args = then_do (each (λ m. m.value s) [] args) combined
 value_vectors Fixed s f args = then_do (all_slots (λ m. m.value s) f args) (applied f)
-value_vectors Columns s f args = Err unserved
+value_vectors Columns s f args = Err unbuilt
 
 abbrev pub value_kind : Kind → Env → Func → List ArgMeaning → Result Valued Fault
 value_kind kind.Table s f args = Err (fault E04 (word_of f))
 value_kind kind.Command s f args = Err (fault E19 (word_of f))
-value_kind kind.Vector s f args = then_do (bound f (arg_names args)) (λ _. value_vectors (arity_of f) s f args)
+value_kind kind.Vector s f args = then_do (bound f (names_in args)) (λ _. value_vectors (arity_of f) s f args)
 value_kind kind.Description s f args =
-    then_do (bound f (arg_names args)) (λ _. then_do (table_of s args) (λ t. quiet (description_of f t)))
+    then_do (bound f (names_in args)) (λ _. then_do (described_table s args) (λ t. quiet (description_of f t)))
 
 abbrev pub value_named : Env → List ℕ → Option Func → List ArgMeaning → Result Valued Fault
 value_named s name None args = Err (later_fault name (later_of name))
@@ -242,83 +222,3 @@ value_named s name (Some f) args = value_kind (kind_of f) s f args
 
 abbrev pub value_call : Env → List ℕ → List ArgMeaning → Result Valued Fault
 value_call s name args = value_named s name (func_of name) args
-
--- ---- Expressions
-
--- an expression that is no vector
-abbrev pub refused : Form → List ℕ → Meaning
-refused form word =
-    record { form = form; check = λ s. Err (fault E04 word); value = λ s. Err (fault E04 word) }
-
--- what `-` before this form writes
-abbrev pub minus_form : Option ℤ → Form
-minus_form None = Other
-minus_form (Some n) = Negative n
-
--- `-` or `!` before an expression
-abbrev pub sign_of : UnOp → Form → Meaning → Meaning
-sign_of o form arg =
-    record {
-      form = form;
-      check = λ s. then_do (arg.check s) (sign_type o);
-      value = λ s. then_do (arg.value s) (signed o);
-    }
-
-abbrev pub expr_step : Expr-F Meaning (Unit {0}) ArgMeaning (Unit {0}) TailMeaning → Meaning
-expr_step (Expr-F.Lit cell kind) =
-    record {
-      form = Literal (literal_cell kind cell) kind;
-      check = λ s. Ok kind;
-      value = λ s. quiet (Ok (one_cell kind (literal_cell kind cell)));
-    }
-expr_step Expr-F.Null = refused NullWord (codes "NULL")
-expr_step Expr-F.Infinite = refused InfWord (codes "Inf")
-expr_step (Expr-F.Name name) =
-    record {
-      form = BareName name;
-      check = λ s. kind_in (name_vector s name);
-      value = λ s. quiet (name_vector s name);
-    }
-expr_step (Expr-F.Paren inner) = record { form = Other; check = inner.check; value = inner.value }
-expr_step (Expr-F.Minus arg) = sign_of un.Neg (minus_form (negative arg.form)) arg
-expr_step (Expr-F.Not arg) = sign_of un.Not Other arg
-expr_step (Expr-F.Chain first rest) =
-    record {
-      form = Other;
-      check = λ s. then_do (first.check s) (λ a. check_tails s a rest);
-      value = λ s. then_do (first.value s) (λ a. value_tails s a rest);
-    }
-expr_step (Expr-F.Call name args) =
-    record { form = Other; check = λ s. check_call s name args; value = λ s. value_call s name args }
-expr_step (Expr-F.Query head brackets) = refused Other (codes "[")
-expr_step (Expr-F.Formula left right) = refused Other (codes "~")
-
--- a bracket and what stands as its j give no vector by themselves
-abbrev pub nothing : {A : Type 0} → A → Unit {0}
-nothing x = tt
-
-abbrev pub arg_step : Arg-F Meaning (Unit {0}) ArgMeaning (Unit {0}) TailMeaning → ArgMeaning
-arg_step a = record { name = a.name; means = a.value }
-
-abbrev pub tail_step : Tail-F Meaning (Unit {0}) ArgMeaning (Unit {0}) TailMeaning → TailMeaning
-tail_step t = record { op = t.op; means = t.arg }
-
--- the meaning of an expression
-abbrev pub meaning : Expr → Meaning
-meaning = fold-Expr Meaning (Unit {0}) ArgMeaning (Unit {0}) TailMeaning expr_step nothing arg_step nothing tail_step
-
--- the meaning of an argument
-abbrev pub arg_meaning : Arg → ArgMeaning
-arg_meaning = fold-Arg Meaning (Unit {0}) ArgMeaning (Unit {0}) TailMeaning expr_step nothing arg_step nothing tail_step
-
--- the meaning of an operator and its right side
-abbrev pub tail_meaning : Tail → TailMeaning
-tail_meaning = fold-Tail Meaning (Unit {0}) ArgMeaning (Unit {0}) TailMeaning expr_step nothing arg_step nothing tail_step
-
--- the type of an expression in its surroundings, or its first fault
-abbrev pub check_of : Expr → Env → Result ColType Fault
-check_of e s = (meaning e).check s
-
--- its value in these surroundings, or its first fault
-abbrev pub value_in : Expr → Env → Result Valued Fault
-value_in e s = (meaning e).value s
