@@ -1,5 +1,6 @@
 ghost use Rattle.std.specs.Prelude.{◌≡◌, IfErr, ◌<◌, ◌==◌, [], map, length, nat_lt};
-ghost use Rattle.session_model.specs.Meaning.{arg_meaning, names_in};
+ghost use Rattle.session_model.specs.Expression.{names_in};
+ghost use Rattle.session_model.specs.Meaning.{arg_meaning};
 ghost use Rattle.session_model.specs.Binding.{free_count, unnamed_count, place_of, places, is_formal, is_bad, names_fine, missing_word, is_lacking, all_there, word_in, counted, bound_to_formals, bound_unnamed, bound};
 ghost use Rattle.arg_bind.specs.Answers.{Answers, IsOwn};
 

@@ -1,5 +1,6 @@
 ghost use Rattle.std.specs.Prelude.{◌≡◌, ◌+◌, ◌<◌, map, cond, is_none};
-ghost use Rattle.session_model.specs.Meaning.{arg_meaning, names_in};
+ghost use Rattle.session_model.specs.Expression.{names_in};
+ghost use Rattle.session_model.specs.Meaning.{arg_meaning};
 ghost use Rattle.session_model.specs.Binding.{is_named, named, unnamed, is_free, place_of};
 
 use dt_tree::Arg;

@@ -11,7 +11,8 @@ use Rattle.dt_table.specs.Plain.{plain}
 use Rattle.dt_table.specs.Table.{TableSeen}
 use Rattle.dt_tree.specs.declared.tree.Arg.{Arg}
 use Rattle.expr_eval.specs.declared.scope.Scope.{Scope}
-use Rattle.expr_model.specs.Meaning.{ArgMeaning, arg_meaning}
+use Rattle.session_model.specs.Meaning.{arg_meaning}
+use Rattle.session_model.specs.Meanings.{ArgMeaning}
 use Rattle.expr_model.specs.Surroundings.{Columns, Env, Var, Table, Vector}
 use Rattle.na_vector.specs.Column.{Seen}
 use Rattle.na_vector.specs.Frame.{FrameSeen, vectors_of}

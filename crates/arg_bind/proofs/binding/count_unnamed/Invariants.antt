@@ -1,5 +1,6 @@
 use Rattle.std.proofs.Common.{◌≡◌, ◌≤◌, ◌+◌, map, drop}
-use Rattle.session_model.specs.Meaning.{arg_meaning, names_in}
+use Rattle.session_model.specs.Expression.{names_in}
+use Rattle.session_model.specs.Meaning.{arg_meaning}
 use Rattle.session_model.specs.Binding.{unnamed_count}
 use Rattle.arg_bind.proofs.binding.count_unnamed.Given as goal
 
