@@ -9,10 +9,9 @@ use Rattle.dt_base.specs.declared.cell.Cell.{Cell}
 use Rattle.dt_base.specs.declared.cell.Cell.TheVariants as is
 use Rattle.dt_base.specs.declared.cell.ColType.{ColType}
 use Rattle.dt_base.specs.declared.cell.ColType.TheVariants as ty
-use Rattle.dt_base.specs.declared.fault.Code.TheVariants.{E02, E03, E04, E05, E06, E07, E19, E20}
+use Rattle.dt_base.specs.declared.fault.Code.TheVariants.{E02, E03, E04, E06, E07, E19, E20}
 use Rattle.dt_base.specs.declared.fault.Fault.{Fault}
-use Rattle.dt_base.specs.declared.operators.Op.TheVariants.{Add, Sub, Div, Mod, Gt, Eq, Or, And}
-use Rattle.dt_base.specs.declared.warns.Warns.{Warns}
+use Rattle.dt_base.specs.declared.operators.Op.TheVariants.{Add, Sub, Div, Mod, Gt, Or}
 use Rattle.dt_model.specs.Table.{PlainTable}
 use Rattle.dt_model.specs.Vector.{Vector as Cells}
 use Rattle.dt_tree.specs.declared.tree.BinOp.{BinOp}

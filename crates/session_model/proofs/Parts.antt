@@ -1,6 +1,6 @@
 -- What stands outside after a part of what a statement sends: nothing of it, all of it, or all up to
 -- one piece.
-use Rattle.std.proofs.Common.{◌≡◌, ◌⊎◌, ℕ, List, [], ◌++◌, Option, Some, None, take, length, refl, sym, ap, ◌∙◌, inl, inr, ◌≤◌, arith, Result, Ok, Err}
+use Rattle.std.proofs.Common.{◌≡◌, ℕ, List, [], Option, Some, None, length, refl, sym, ap, ◌∙◌, inl, inr, ◌≤◌, arith, Err}
 use Rattle.std.proofs.Math.Seq.{take-length}
 use Rattle.std.proofs.lemmas.List.{append-nil}
 use Rattle.dt_base.specs.declared.fault.Fault.{Fault}

@@ -1,6 +1,6 @@
 -- The run of statements one after another, against the plain evaluation.
 --   Reached xs s0 w0 i s w n   the run has done i of the statements xs, and is in state s and world w
-use Rattle.std.proofs.Common.{◌≡◌, ◌<◌, ◌+◌, ℕ, suc, zero, List, [], ◌∷◌, Option, Some, None, Ok, Err, drop, length, get_or, refl, sym, ap, subst, ◌∙◌, arith, add-one, drop-cons}
+use Rattle.std.proofs.Common.{◌≡◌, ◌<◌, ◌+◌, ℕ, suc, List, [], ◌∷◌, Some, None, Ok, Err, drop, length, get_or, refl, sym, ap, subst, ◌∙◌, arith, add-one, drop-cons}
 use Rattle.dt_base.specs.declared.fault.Fault.{Fault}
 use Rattle.dt_model.specs.State.{State}
 use Rattle.dt_tree.specs.declared.tree.Stmt.{Stmt}

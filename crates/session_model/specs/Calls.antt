@@ -4,7 +4,7 @@
 --   table_call f args w what the call of a table function gives
 --   command f args w    what the call of a command does
 --   command_named f args    what the call does as a whole statement, if it is a command
-use Rattle.std.specs.Prelude.{ℕ, cond, Bool, true, false, List, [], ◌∷◌, map, Option, None, Some, Result, Ok, Err, codes}
+use Rattle.std.specs.Prelude.{ℕ, cond, List, Option, None, Some, Result, Ok, Err, codes}
 use Rattle.std.specs.Str.{bytes_eq}
 use Rattle.std.specs.FinMap as finite
 use Rattle.dt_base.specs.declared.fault.Fault.{Fault}

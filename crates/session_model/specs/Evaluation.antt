@@ -13,7 +13,6 @@
 -- Where a put or a write fails, or memory lacks, a run is cut off: what stands is what the first j
 -- statements gave, and a first part of what the next one gives.
 use Rattle.std.specs.Prelude.{◌≡◌, ◌+◌, ℕ, zero, suc, List, [], ◌∷◌, Option, None, Some, Result, Ok, Err}
-use Rattle.dt_base.specs.declared.fault.Code.{Code}
 use Rattle.dt_base.specs.declared.fault.Code.TheVariants.{E01, E18, E21, E22}
 use Rattle.dt_base.specs.declared.fault.Fault.{Fault}
 use Rattle.dt_base.specs.Fault.{fault}

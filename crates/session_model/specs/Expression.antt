@@ -4,25 +4,18 @@
 --   check_call, value_call     the type and the value of a call
 -- Faults come left to right, and what stands inside an expression comes before the expression. A type
 -- depends on no cell. A value repeats the faults of types.
-use Rattle.std.specs.Prelude.{ℕ, ℤ, neg_ℤ, ◌+◌, cond, Bool, true, false, List, [], ◌∷◌, ◌++◌, map, Option, None, Some, Result, Ok, Err, codes, slice_get}
-use Rattle.dt_base.specs.declared.cell.Cell.{Cell}
+use Rattle.std.specs.Prelude.{ℕ, Bool, true, false, List, [], ◌∷◌, ◌++◌, map, Option, None, Some, Result, Ok, Err, slice_get}
 use Rattle.dt_base.specs.declared.cell.Cell.TheVariants as is
 use Rattle.dt_base.specs.declared.cell.ColType.{ColType}
 use Rattle.dt_base.specs.declared.fault.Fault.{Fault}
 use Rattle.dt_base.specs.declared.fault.Code.TheVariants.{E02, E04, E19}
 use Rattle.dt_base.specs.Fault.{fault}
 use Rattle.dt_base.specs.declared.operators.UnOp.{UnOp}
-use Rattle.dt_base.specs.declared.operators.UnOp.TheVariants as un
 use Rattle.dt_base.specs.declared.warns.Warns.{Warns}
 use Rattle.dt_base.specs.Warns.{no_warns, both_warns}
 use Rattle.dt_model.specs.Table.{PlainTable}
 use Rattle.dt_model.specs.Vector.{Vector}
-use Rattle.dt_tree.specs.declared.tree.Arg.{Arg}
 use Rattle.dt_tree.specs.declared.tree.BinOp.{BinOp}
-use Rattle.dt_tree.specs.declared.tree.Expr.{Expr, fold-Expr}
-use Rattle.dt_tree.specs.declared.tree.Expr.TheFolds.{fold-Arg, fold-Tail}
-use Rattle.dt_tree.specs.declared.tree.Expr.TheOpen.{Expr-F, Arg-F, Tail-F}
-use Rattle.dt_tree.specs.declared.tree.Tail.{Tail}
 use Rattle.func_table.specs.declared.formal.Formal.{Formal}
 use Rattle.func_table.specs.declared.formal.Formal.TheVariants as formal
 use Rattle.func_table.specs.declared.func.Arity.{Arity}
@@ -42,8 +35,8 @@ use Rattle.vector_model.specs.Then.{then_do}
 use Rattle.vector_model.specs.Combine.{common_of, joined}
 use Rattle.vector_model.specs.Functions.{Valued}
 use Rattle.expr_model.specs.Functions.{with_warns, type_of, value_of, description_type, description_of}
-use Rattle.expr_model.specs.Operators.{tail_type, tail_value, sign_type, sign_value}
-use Rattle.expr_model.specs.Surroundings.{Env, one_cell, name_vector, var_table}
+use Rattle.expr_model.specs.Operators.{tail_type, tail_value, sign_value}
+use Rattle.expr_model.specs.Surroundings.{Env, var_table}
 use Rattle.expr_model.specs.Unbuilt.{unbuilt}
 
 -- a vector as a value, without warnings

@@ -32,12 +32,11 @@ use Rattle.func_table.specs.Calls.{func_of, word_of, kind_of, is_later, is_list}
 use Rattle.func_table.specs.Special.{is_later_special}
 use Rattle.vector_model.specs.Functions.{Valued}
 use Rattle.vector_model.specs.Then.{then_do}
-use Rattle.expr_model.specs.Operators.{sign_type, sign_value}
+use Rattle.expr_model.specs.Operators.{sign_type}
 use Rattle.expr_model.specs.Surroundings.{Env, one_cell, name_vector, outside}
 use Rattle.session_model.specs.Binding.{bound}
 use Rattle.session_model.specs.Calls.{table_call, command_named}
 use Rattle.session_model.specs.Columns.{list_answer, text_columns, vector_answer}
-use Rattle.session_model.specs.Effect.{Effect}
 use Rattle.session_model.specs.Expression.{quiet, kind_in, signed, check_tails, value_tails, check_call, value_call, names_in}
 use Rattle.session_model.specs.Form.{Form, Literal, Negative, NullWord, InfWord, BareName, NotName, Other, literal_cell, negative, text_in}
 use Rattle.session_model.specs.Meanings.{Answer, Meaning, ArgMeaning, TailMeaning, SecondMeaning, Computes, Assigns, BracketMeaning}
@@ -248,8 +247,8 @@ expr_step (Expr-F.Minus arg) = sign_of un.Neg (minus_form (negative arg.form)) f
 expr_step (Expr-F.Not arg) = sign_of un.Not (not_form arg.form) arg.is_join arg
 expr_step (Expr-F.Chain first rest) =
     vector Other (λ inside. first.served inside && list_all (λ t. t.means.served inside) rest)
-      (λ s. then_do (first.check s) (λ a. check_tails s a rest))
-      (λ s. then_do (first.value s) (λ a. value_tails s a rest))
+    (λ s. then_do (first.check s) (λ a. check_tails s a rest))
+    (λ s. then_do (first.value s) (λ a. value_tails s a rest))
 expr_step (Expr-F.Call name args) = call_of name args
 expr_step (Expr-F.Query head brackets) = query_of head brackets
 expr_step (Expr-F.Formula left right) = record (refused Other (codes "~")) { served = λ inside. false }

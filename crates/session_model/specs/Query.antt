@@ -7,7 +7,7 @@
 --   bracket_served b     whether all forms of a bracket are served
 -- A bracket is looked at in this order: its head; its arguments; i, by its type and then its value; j,
 -- by its types and then its values; the names and limits of its result.
-use Rattle.std.specs.Prelude.{ℕ, ◌==◌, ◌&&◌, not, Bool, true, false, List, [], ◌∷◌, length, map, Option, None, Some, Result, Ok, Err, codes, if◌then◌else◌, is_none}
+use Rattle.std.specs.Prelude.{ℕ, ◌==◌, ◌&&◌, not, Bool, true, false, List, [], ◌∷◌, length, Option, None, Some, Result, Ok, Err, codes, if◌then◌else◌, is_none}
 use Rattle.std.specs.List.{list_all}
 use Rattle.std.specs.FinMap as finite
 use Rattle.dt_base.specs.declared.fault.Fault.{Fault}
@@ -32,7 +32,7 @@ use Rattle.session_model.specs.Expression.{quiet}
 use Rattle.session_model.specs.Form.{Form, BareName, NotName}
 use Rattle.session_model.specs.Meanings.{Outcome, Same, Answer, Meaning, ArgMeaning, SecondMeaning, Computes, Assigns, BracketMeaning}
 use Rattle.session_model.specs.Meanings as gives
-use Rattle.session_model.specs.Value.{Value, Numbered, New, Cells, Null, Given, Scene, numbered_table, new_table}
+use Rattle.session_model.specs.Value.{Value, Numbered, New, Cells, Null, Given, numbered_table, new_table}
 
 -- ---- The script's names, as expressions meet them
 
@@ -106,7 +106,7 @@ rows_of_i i t vars = then_do (i_value i (whole_rows t vars)) (rows_by t)
 abbrev pub rows_answer : PlainTable → ChosenRows → Result Answer Fault
 rows_answer t r =
     then_do (new_table (columns_in t).names (length r.places) (columns_at (columns_in t) r.places).vectors)
-      (gives_columns r.warns)
+    (gives_columns r.warns)
 
 -- an answer, and more warnings
 abbrev pub warned_answer : Warns → Answer → Result Answer Fault
