@@ -1,9 +1,7 @@
 -- What names are bound to, and columns by name.
-use Rattle.std.proofs.Common.{◌≡◌, ◌<◌, ◌==◌, ℕ, suc, List, [], ◌∷◌, length, map, Option, None, Some, Result, Ok, Err, refl, sym, ap, ◌∙◌, arith, slice_get, option_map}
-use Rattle.std.proofs.lemmas.Option.{slice_get-map}
+use Rattle.std.proofs.Common.{◌≡◌, ℕ, List, Option, None, Some, Ok, Err, refl}
 use Rattle.dt_base.specs.declared.fault.Code.{Code}
 use Rattle.dt_base.specs.declared.fault.Code.TheVariants.{E02, E04, E20}
-use Rattle.dt_base.specs.declared.fault.Fault.{Fault}
 use Rattle.dt_base.specs.Fault.{fault}
 use Rattle.dt_model.specs.Table.{PlainTable}
 use Rattle.dt_model.specs.Vector.{Vector as Cells}

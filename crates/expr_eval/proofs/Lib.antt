@@ -1,4 +1,3 @@
-pub mod ArgNames
 pub mod Between
 pub mod Bindings
 pub mod Given

@@ -1,5 +1,5 @@
 -- The refusal of an operation is the fault of its definition.
-use Rattle.std.proofs.Common.{◌≡◌, ℕ, List, Result, Ok, Err, refl, sym, ap, ◌∙◌}
+use Rattle.std.proofs.Common.{ℕ, List, Result, Err, refl}
 use Rattle.arg_bind.specs.Answers.{AnswersAs}
 use Rattle.arg_bind.specs.declared.fail.EvalFail.{EvalFail}
 use Rattle.arg_bind.specs.declared.fail.EvalFail.TheVariants as eval

@@ -1,6 +1,6 @@
 -- The vectors of values, with their columns or without.
 use Rattle.std.proofs.Common.{◌≡◌, List, [], ◌∷◌, map, refl, ap}
-use Rattle.expr_model.specs.Meaning as model
+use Rattle.session_model.specs.Expression as model
 use Rattle.vec_funcs.specs.Valued.{valued_of, vector_in}
 use Rattle.vec_funcs.specs.declared.valued.Valued.{Valued}
 

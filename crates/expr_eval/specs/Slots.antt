@@ -1,7 +1,6 @@
 -- What contracts see of what is given to a call.
 --   slot_of s          a slot with the plain value
 --   values_of values   the plain values
-use Rattle.std.specs.Prelude.{List, map}
 use Rattle.func_table.specs.declared.slot.Slot.{Slot}
 use Rattle.func_table.specs.declared.slot.Slot.TheVariants.{Given, Flag, Absent}
 use Rattle.vec_funcs.specs.Valued.{valued_of}

@@ -1,8 +1,8 @@
-ghost use Rattle.std.specs.Prelude.{◌≡◌, map};
-ghost use Rattle.arg_bind.specs.Answers.{AnswersAs};
+ghost use Rattle.std.specs.Prelude.{◌≡◌, map, IfErr};
+ghost use Rattle.arg_bind.specs.Answers.{AnswersAs, IsOwn};
 ghost use Rattle.expr_eval.specs.Slots.{slot_of};
 ghost use Rattle.expr_model.specs.Functions.{one_value, flagged_value, three_value, value_of, value_of_one, value_of_two, value_of_three};
-ghost use Rattle.expr_model.specs.Meaning.{slot_vector, slot_warns, all_warns, warns_of_all, applied, combined};
+ghost use Rattle.session_model.specs.Expression.{slot_vector, slot_warns, all_warns, warns_of_all, applied, combined};
 ghost use Rattle.dt_base.specs.Warns.{no_warns};
 ghost use Rattle.vec_funcs.specs.Valued.{valued_of};
 
@@ -22,7 +22,8 @@ fn one_value<L: Ledger>(
     x: &Column,
     steps: &mut Steps<L>,
 ) -> Result<Valued, EvalFail>
-    ensures { AnswersAs valued_of (one_value f x.now.vector) result }
+    ensures answer { AnswersAs valued_of (one_value f x.now.vector) result }
+    ensures own { IfErr result IsOwn }
 {
     match f {
         Func::IsNa => na_test(alloc, x, steps),
@@ -46,7 +47,8 @@ fn flagged_value<L: Ledger>(
     x: &Column,
     steps: &mut Steps<L>,
 ) -> Result<Valued, EvalFail>
-    ensures { AnswersAs valued_of (flagged_value f na_rm x.now.vector) result }
+    ensures answer { AnswersAs valued_of (flagged_value f na_rm x.now.vector) result }
+    ensures own { IfErr result IsOwn }
 {
     match f {
         Func::Sum => sum(alloc, x, na_rm, steps),
@@ -65,7 +67,8 @@ fn three_value<L: Ledger>(
     b: &Column,
     steps: &mut Steps<L>,
 ) -> Result<Valued, EvalFail>
-    ensures { AnswersAs valued_of (three_value f test.now.vector a.now.vector b.now.vector) result }
+    ensures answer { AnswersAs valued_of (three_value f test.now.vector a.now.vector b.now.vector) result }
+    ensures own { IfErr result IsOwn }
 {
     match f {
         Func::Fifelse => choice_value(alloc, test, a, b, steps),
@@ -79,7 +82,8 @@ fn value_of_one<L: Ledger>(
     x: &Slot<Valued>,
     steps: &mut Steps<L>,
 ) -> Result<Valued, EvalFail>
-    ensures { AnswersAs valued_of (value_of_one f (slot_vector (slot_of x.now))) result }
+    ensures answer { AnswersAs valued_of (value_of_one f (slot_vector (slot_of x.now))) result }
+    ensures own { IfErr result IsOwn }
 {
     match x {
         Slot::Given(x) => one_value(alloc, f, &x.column, steps),
@@ -95,7 +99,8 @@ fn value_of_two<L: Ledger>(
     flag: &Slot<Valued>,
     steps: &mut Steps<L>,
 ) -> Result<Valued, EvalFail>
-    ensures { AnswersAs valued_of (value_of_two f (slot_vector (slot_of x.now)) (slot_vector (slot_of flag.now))) result }
+    ensures answer { AnswersAs valued_of (value_of_two f (slot_vector (slot_of x.now)) (slot_vector (slot_of flag.now))) result }
+    ensures own { IfErr result IsOwn }
 {
     match (x, flag) {
         (Slot::Given(x), Slot::Absent) => flagged_value(alloc, f, false, &x.column, steps),
@@ -112,7 +117,8 @@ fn value_of_three<L: Ledger>(
     b: &Slot<Valued>,
     steps: &mut Steps<L>,
 ) -> Result<Valued, EvalFail>
-    ensures { AnswersAs valued_of (value_of_three f (slot_vector (slot_of test.now)) (slot_vector (slot_of a.now)) (slot_vector (slot_of b.now))) result }
+    ensures answer { AnswersAs valued_of (value_of_three f (slot_vector (slot_of test.now)) (slot_vector (slot_of a.now)) (slot_vector (slot_of b.now))) result }
+    ensures own { IfErr result IsOwn }
 {
     match (test, a, b) {
         (Slot::Given(test), Slot::Given(a), Slot::Given(b)) => {
@@ -130,7 +136,8 @@ fn func_value<L: Ledger>(
     given: &[Slot<Valued>],
     steps: &mut Steps<L>,
 ) -> Result<Valued, EvalFail>
-    ensures { AnswersAs valued_of (value_of f (map slot_vector (map slot_of given.now))) result }
+    ensures answer { AnswersAs valued_of (value_of f (map slot_vector (map slot_of given.now))) result }
+    ensures own { IfErr result IsOwn }
 {
     match given {
         [] => Err(stop(alloc, Code::E19, "unbuilt")),
@@ -168,7 +175,8 @@ pub fn applied<L: Ledger>(
     given: &[Slot<Valued>],
     steps: &mut Steps<L>,
 ) -> Result<Valued, EvalFail>
-    ensures { AnswersAs valued_of (applied f (map slot_of given.now)) result }
+    ensures answer { AnswersAs valued_of (applied f (map slot_of given.now)) result }
+    ensures own { IfErr result IsOwn }
 {
     let value = func_value(alloc, f, given, steps)?;
     Ok(Valued {
@@ -195,7 +203,8 @@ pub fn combined<L: Ledger>(
     values: &[Valued],
     steps: &mut Steps<L>,
 ) -> Result<Valued, EvalFail>
-    ensures { AnswersAs valued_of (combined (map valued_of values.now)) result }
+    ensures answer { AnswersAs valued_of (combined (map valued_of values.now)) result }
+    ensures own { IfErr result IsOwn }
 {
     let column = combine(alloc, values, steps)?;
     Ok(Valued {

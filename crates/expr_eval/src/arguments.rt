@@ -1,49 +1,26 @@
 ghost use Rattle.std.specs.Prelude.{◌≡◌, ◌+◌, ◌<◌, ◌++◌, ◌∷◌, [], cond, map, Some, OnOk, IfErr};
-ghost use Rattle.arg_bind.specs.Answers.{Answers, AnswersAs, IsStop};
+ghost use Rattle.arg_bind.specs.Answers.{Answers, AnswersAs, IsStop, IsOwn};
 ghost use Rattle.expr_eval.specs.Refusals.{IsNoMemory};
 ghost use Rattle.expr_eval.specs.Scope.{argument_seen, env_of, table_lent};
-ghost use Rattle.expr_model.specs.Meaning.{meaning, arg_meaning, arg_names, arg_at, flag_slot, table_at, table_in, table_of, later_fault};
+ghost use Rattle.session_model.specs.Expression.{names_in, arg_at, flag_slot, table_at, table_in, described_table, later_fault};
+ghost use Rattle.session_model.specs.Meaning.{meaning, arg_meaning};
 ghost use Rattle.func_table.specs.Calls.{later_of};
 ghost use Rattle.session_model.specs.Binding.{bound, place_of, is_free};
 ghost use Rattle.session_model.specs.Form.{name_in};
 
 use crate::names::var_table;
 use crate::{Scope, Vars};
-use arg_bind::{EvalFail, bind, next, place, stop};
+use arg_bind::{EvalFail, place, stop};
 use dt_base::{Cell, Code, ColType};
 use dt_table::Table;
 use dt_tree::{Arg, Expr};
-use func_table::{Formal, Func, Later, Slot, formal_word, later_named};
+use func_table::{Formal, Later, Slot, formal_word, later_named};
 use std::alloc::{AllocError, Global};
-
-/// Nothing, or the first fault of binding these arguments.
-#[tactic(auto, using(crate::proofs::ArgNames::same_names))]
-pub fn bind_call(alloc: Global, f: Func, args: &[Arg]) -> Result<(), EvalFail>
-    ensures { Answers (bound f (arg_names (map arg_meaning args.now))) result }
-{
-    bind(alloc, f, args)
-}
-
-/// The place of the argument that a formal takes, where `before` formals before it are free.
-#[tactic(auto, using(crate::proofs::ArgNames::same_names))]
-pub fn place_in(args: &[Arg], before: usize, p: Formal) -> Option<usize>
-    ensures { result ≡ place_of (arg_names (map arg_meaning args.now)) before p }
-{
-    place(args, before, p)
-}
-
-/// How many formals are free up to this one, where `before` before it are.
-#[tactic(auto, using(crate::proofs::ArgNames::same_names))]
-pub fn next_in(args: &[Arg], before: usize, p: Formal) -> usize
-    requires { before < 1000 }
-    ensures { result ≡ before + cond (is_free (arg_names (map arg_meaning args.now)) p) 1 0 }
-{
-    next(args, before, p)
-}
 
 /// A flag as it is written. Anything but TRUE and FALSE is E19 with the argument.
 pub fn flag_given<T: Drop>(alloc: Global, p: Formal, e: &Expr) -> Result<Slot<T>, EvalFail>
-    ensures { Answers (flag_slot p (meaning e.now).form) result }
+    ensures answer { Answers (flag_slot p (meaning e.now).form) result }
+    ensures own { IfErr result IsOwn }
 {
     match e {
         Expr::Lit {
@@ -60,7 +37,8 @@ fn named_table<'a, V: Vars>(
     s: &Scope<'a, V>,
     e: &Expr,
 ) -> Result<&'a Table, EvalFail>
-    ensures { AnswersAs table_lent (table_at (env_of V.bound s.now) (name_in (meaning e.now).form)) result }
+    ensures answer { AnswersAs table_lent (table_at (env_of V.bound s.now) (name_in (meaning e.now).form)) result }
+    ensures own { IfErr result IsOwn }
 {
     match e {
         Expr::Name { name } => var_table(alloc, s.vars, name.as_str()),
@@ -70,9 +48,9 @@ fn named_table<'a, V: Vars>(
 
 /// The argument that a formal takes, where `before` formals before it are free.
 fn argument_in(args: &[Arg], before: usize, p: Formal) -> Option<&Arg>
-    ensures { argument_seen result ≡ arg_at (map arg_meaning args.now) (place_of (arg_names (map arg_meaning args.now)) before p) }
+    ensures { argument_seen result ≡ arg_at (map arg_meaning args.now) (place_of (names_in (map arg_meaning args.now)) before p) }
 {
-    match place_in(args, before, p) {
+    match place(args, before, p) {
         Some(i) => args.get(i),
         None => None,
     }
@@ -84,7 +62,8 @@ fn table_of_arg<'a, V: Vars>(
     s: &Scope<'a, V>,
     arg: &Arg,
 ) -> Result<&'a Table, EvalFail>
-    ensures { AnswersAs table_lent (table_in (env_of V.bound s.now) (Some (arg_meaning arg.now))) result }
+    ensures answer { AnswersAs table_lent (table_in (env_of V.bound s.now) (Some (arg_meaning arg.now))) result }
+    ensures own { IfErr result IsOwn }
 {
     named_table(alloc, s, &arg.value)
 }
@@ -96,7 +75,8 @@ pub fn table_given<'a, V: Vars>(
     s: &Scope<'a, V>,
     args: &[Arg],
 ) -> Result<&'a Table, EvalFail>
-    ensures { AnswersAs table_lent (table_of (env_of V.bound s.now) (map arg_meaning args.now)) result }
+    ensures answer { AnswersAs table_lent (described_table (env_of V.bound s.now) (map arg_meaning args.now)) result }
+    ensures own { IfErr result IsOwn }
 {
     match argument_in(args, 0, Formal::D) {
         Some(arg) => table_of_arg(alloc, s, arg),
@@ -106,7 +86,8 @@ pub fn table_given<'a, V: Vars>(
 
 /// The fault of a call that gives no vector, of a function that is not served.
 pub fn later_call(alloc: Global, name: &str) -> EvalFail
-    ensures { IsStop (later_fault name.now (later_of name.now)) result }
+    ensures answer { IsStop (later_fault name.now (later_of name.now)) result }
+    ensures own { IsOwn result }
 {
     match later_named(name) {
         None => stop(alloc, Code::E02, name),
@@ -120,6 +101,7 @@ pub fn later_call(alloc: Global, name: &str) -> EvalFail
 pub fn add<T: Drop>(list: &mut Vec<T>, x: T) -> Result<(), EvalFail>
     ensures ok { OnOk result (list.new.items ≡ list.old.items ++ x ∷ []) }
     ensures err { IfErr result IsNoMemory }
+    ensures own { IfErr result IsOwn }
 {
     match list.push(x) {
         Ok(()) => Ok(()),

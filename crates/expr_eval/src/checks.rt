@@ -1,18 +1,19 @@
-ghost use Rattle.std.specs.Prelude.{◌≡◌, ◌<◌, [], length, map};
-ghost use Rattle.arg_bind.specs.Answers.{Answers, AnswersAs};
+ghost use Rattle.std.specs.Prelude.{◌≡◌, ◌<◌, [], length, map, IfErr};
+ghost use Rattle.arg_bind.specs.Answers.{Answers, AnswersAs, IsOwn};
 ghost use Rattle.expr_eval.specs.Scope.{env_of, IsScope};
-ghost use Rattle.expr_model.specs.Meaning.{meaning, arg_meaning, tail_meaning, arg_names, arg_at, check_of, check_tail, check_tails, given, slot_as, slot_at, slots, all_slots, each, check_vectors, check_kind, check_named, check_call};
+ghost use Rattle.session_model.specs.Expression.{names_in, arg_at, check_tail, check_tails, given, slot_as, slot_at, slots, all_slots, each, check_vectors, check_kind, check_named, check_call};
+ghost use Rattle.session_model.specs.Meaning.{meaning, arg_meaning, tail_meaning, check_of};
 ghost use Rattle.expr_model.specs.Operators.{sign_type};
 ghost use Rattle.func_table.specs.Calls.{arity_of, formals_of, func_of, is_flag, kind_of};
 ghost use Rattle.session_model.specs.Binding.{places, place_of};
 ghost use Rattle.vector_model.specs.Then.{then_do};
 ghost use Rattle.vector_model.specs.Combine.{common_of};
 
-use crate::arguments::{add, bind_call, flag_given, later_call, next_in, place_in, table_given};
+use crate::arguments::{add, flag_given, later_call, table_given};
 use crate::kinds::{description_type, func_type, sign_type, tail_type};
 use crate::names::name_kind;
 use crate::{Scope, Vars};
-use arg_bind::{EvalFail, stop};
+use arg_bind::{EvalFail, bind, next, place, stop};
 use dt_base::{Code, ColType, UnOp};
 use dt_tree::{Arg, Expr, Tail};
 use func_table::{
@@ -30,7 +31,8 @@ use std::alloc::Global;
 #[cycle(check)]
 pub fn check<V: Vars>(alloc: Global, e: &Expr, s: &Scope<'_, V>) -> Result<ColType, EvalFail>
     requires { IsScope s.now }
-    ensures { Answers (check_of e.now (env_of V.bound s.now)) result }
+    ensures answer { Answers (check_of e.now (env_of V.bound s.now)) result }
+    ensures own { IfErr result IsOwn }
 {
     match e {
         Expr::Lit { cell: _, kind } => Ok(*kind),
@@ -60,7 +62,8 @@ fn check_sign<V: Vars>(
     s: &Scope<'_, V>,
 ) -> Result<ColType, EvalFail>
     requires { IsScope s.now }
-    ensures { Answers (then_do (check_of e.now (env_of V.bound s.now)) (sign_type op)) result }
+    ensures answer { Answers (then_do (check_of e.now (env_of V.bound s.now)) (sign_type op)) result }
+    ensures own { IfErr result IsOwn }
 {
     let kind = check(alloc, e, s)?;
     sign_type(alloc, op, kind)
@@ -74,7 +77,8 @@ fn check_tails<V: Vars>(
     s: &Scope<'_, V>,
 ) -> Result<ColType, EvalFail>
     requires { IsScope s.now }
-    ensures { Answers (check_tails (env_of V.bound s.now) first (map tail_meaning rest.now)) result }
+    ensures answer { Answers (check_tails (env_of V.bound s.now) first (map tail_meaning rest.now)) result }
+    ensures own { IfErr result IsOwn }
 {
     let mut kind = first;
     for t in rest {
@@ -91,7 +95,8 @@ fn check_tail<V: Vars>(
     s: &Scope<'_, V>,
 ) -> Result<ColType, EvalFail>
     requires { IsScope s.now }
-    ensures { Answers (check_tail (env_of V.bound s.now) left (tail_meaning t.now)) result }
+    ensures answer { Answers (check_tail (env_of V.bound s.now) left (tail_meaning t.now)) result }
+    ensures own { IfErr result IsOwn }
 {
     let right = check(alloc, &t.arg, s)?;
     tail_type(alloc, t.op, left, right)
@@ -105,7 +110,8 @@ fn check_call<V: Vars>(
     s: &Scope<'_, V>,
 ) -> Result<ColType, EvalFail>
     requires { IsScope s.now }
-    ensures { Answers (check_call (env_of V.bound s.now) name.now (map arg_meaning args.now)) result }
+    ensures answer { Answers (check_call (env_of V.bound s.now) name.now (map arg_meaning args.now)) result }
+    ensures own { IfErr result IsOwn }
 {
     match func_named(name) {
         None => Err(later_call(alloc, name)),
@@ -122,7 +128,8 @@ fn check_kind<V: Vars>(
     s: &Scope<'_, V>,
 ) -> Result<ColType, EvalFail>
     requires { IsScope s.now }
-    ensures { Answers (check_kind (kind_of f) (env_of V.bound s.now) f (map arg_meaning args.now)) result }
+    ensures answer { Answers (check_kind (kind_of f) (env_of V.bound s.now) f (map arg_meaning args.now)) result }
+    ensures own { IfErr result IsOwn }
 {
     match kind_of(f) {
         Kind::Table => Err(stop(alloc, Code::E04, func_word(f))),
@@ -138,9 +145,10 @@ fn check_description<V: Vars>(
     args: &[Arg],
     s: &Scope<'_, V>,
 ) -> Result<ColType, EvalFail>
-    ensures { Answers (check_kind Kind.Description (env_of V.bound s.now) f (map arg_meaning args.now)) result }
+    ensures answer { Answers (check_kind Kind.Description (env_of V.bound s.now) f (map arg_meaning args.now)) result }
+    ensures own { IfErr result IsOwn }
 {
-    bind_call(alloc, f, args)?;
+    bind(alloc, f, args)?;
     let _table = table_given(alloc, s, args)?;
     description_type(alloc, f)
 }
@@ -153,9 +161,10 @@ fn check_bound<V: Vars>(
     s: &Scope<'_, V>,
 ) -> Result<ColType, EvalFail>
     requires { IsScope s.now }
-    ensures { Answers (check_kind Kind.Vector (env_of V.bound s.now) f (map arg_meaning args.now)) result }
+    ensures answer { Answers (check_kind Kind.Vector (env_of V.bound s.now) f (map arg_meaning args.now)) result }
+    ensures own { IfErr result IsOwn }
 {
-    bind_call(alloc, f, args)?;
+    bind(alloc, f, args)?;
     match arity_of(f) {
         Arity::Unnamed => check_each(alloc, args, s),
         Arity::Fixed => check_fixed(alloc, f, args, s),
@@ -167,7 +176,8 @@ fn check_bound<V: Vars>(
 #[cycle(check)]
 fn check_each<V: Vars>(alloc: Global, args: &[Arg], s: &Scope<'_, V>) -> Result<ColType, EvalFail>
     requires { IsScope s.now }
-    ensures { Answers (then_do (each (λ m. m.check (env_of V.bound s.now)) [] (map arg_meaning args.now)) (λ kinds. Ok (common_of kinds))) result }
+    ensures answer { Answers (then_do (each (λ m. m.check (env_of V.bound s.now)) [] (map arg_meaning args.now)) (λ kinds. Ok (common_of kinds))) result }
+    ensures own { IfErr result IsOwn }
 {
     let kinds = kinds_of_each(alloc, args, s)?;
     Ok(common_kind(kinds.as_slice()))
@@ -190,7 +200,8 @@ fn kinds_of_each<V: Vars>(
     s: &Scope<'_, V>,
 ) -> Result<Vec<ColType>, EvalFail>
     requires { IsScope s.now }
-    ensures { AnswersAs (λ v. v.items) (each (λ m. m.check (env_of V.bound s.now)) [] (map arg_meaning args.now)) result }
+    ensures answer { AnswersAs (λ v. v.items) (each (λ m. m.check (env_of V.bound s.now)) [] (map arg_meaning args.now)) result }
+    ensures own { IfErr result IsOwn }
 {
     let mut done = Vec::new(alloc);
     for a in args {
@@ -208,7 +219,8 @@ fn check_fixed<V: Vars>(
     s: &Scope<'_, V>,
 ) -> Result<ColType, EvalFail>
     requires { IsScope s.now }
-    ensures { Answers (check_vectors Arity.Fixed (env_of V.bound s.now) f (map arg_meaning args.now)) result }
+    ensures answer { Answers (check_vectors Arity.Fixed (env_of V.bound s.now) f (map arg_meaning args.now)) result }
+    ensures own { IfErr result IsOwn }
 {
     let given = check_formals(alloc, formals(f), args, s)?;
     func_type(alloc, f, given.as_slice())
@@ -223,14 +235,15 @@ fn check_formals<V: Vars>(
 ) -> Result<Vec<Slot<ColType>>, EvalFail>
     requires scope { IsScope s.now }
     requires few { length ps.now < 1000 }
-    ensures { AnswersAs (λ v. v.items) (slots (λ m. m.check (env_of V.bound s.now)) (map arg_meaning args.now) [] (places (arg_names (map arg_meaning args.now)) 0 ps.now)) result }
+    ensures answer { AnswersAs (λ v. v.items) (slots (λ m. m.check (env_of V.bound s.now)) (map arg_meaning args.now) [] (places (names_in (map arg_meaning args.now)) 0 ps.now)) result }
+    ensures own { IfErr result IsOwn }
 {
     let mut done = Vec::new(alloc);
     let mut before = 0;
     for p in ps {
         let slot = check_formal(alloc, *p, before, args, s)?;
         add(&mut done, slot)?;
-        before = next_in(args, before, *p);
+        before = next(args, before, *p);
     }
     Ok(done)
 }
@@ -244,9 +257,10 @@ fn check_formal<V: Vars>(
     s: &Scope<'_, V>,
 ) -> Result<Slot<ColType>, EvalFail>
     requires { IsScope s.now }
-    ensures { Answers (slot_at (λ m. m.check (env_of V.bound s.now)) p (arg_at (map arg_meaning args.now) (place_of (arg_names (map arg_meaning args.now)) before p))) result }
+    ensures answer { Answers (slot_at (λ m. m.check (env_of V.bound s.now)) p (arg_at (map arg_meaning args.now) (place_of (names_in (map arg_meaning args.now)) before p))) result }
+    ensures own { IfErr result IsOwn }
 {
-    match place_in(args, before, p) {
+    match place(args, before, p) {
         None => Ok(Slot::Absent),
         Some(i) => match args.get(i) {
             None => Ok(Slot::Absent),
@@ -263,7 +277,8 @@ fn check_as<V: Vars>(
     s: &Scope<'_, V>,
 ) -> Result<Slot<ColType>, EvalFail>
     requires { IsScope s.now }
-    ensures { Answers (slot_as (λ m. m.check (env_of V.bound s.now)) p (is_flag p) (arg_meaning a.now).means) result }
+    ensures answer { Answers (slot_as (λ m. m.check (env_of V.bound s.now)) p (is_flag p) (arg_meaning a.now).means) result }
+    ensures own { IfErr result IsOwn }
 {
     if is_flag(p) {
         flag_given(alloc, p, &a.value)
@@ -275,7 +290,8 @@ fn check_as<V: Vars>(
 #[cycle(check)]
 fn check_given<V: Vars>(alloc: Global, a: &Arg, s: &Scope<'_, V>) -> Result<Slot<ColType>, EvalFail>
     requires { IsScope s.now }
-    ensures { Answers (given ((arg_meaning a.now).means.check (env_of V.bound s.now))) result }
+    ensures answer { Answers (given ((arg_meaning a.now).means.check (env_of V.bound s.now))) result }
+    ensures own { IfErr result IsOwn }
 {
     Ok(Slot::Given(check(alloc, &a.value, s)?))
 }

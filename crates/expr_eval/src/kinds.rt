@@ -1,5 +1,5 @@
-ghost use Rattle.std.specs.Prelude.{◌≡◌};
-ghost use Rattle.arg_bind.specs.Answers.{Answers};
+ghost use Rattle.std.specs.Prelude.{◌≡◌, IfErr};
+ghost use Rattle.arg_bind.specs.Answers.{Answers, IsOwn};
 ghost use Rattle.dt_model.specs.Operations.{arithmetic_type};
 ghost use Rattle.expr_model.specs.Functions.{type_of, type_of_one, type_of_two, type_of_three, one_type, flagged_type, three_type, choice_type, description_type};
 ghost use Rattle.expr_model.specs.Operators.{op_word, unary_word, typed_as, range_type, tail_type, sign_type};
@@ -46,7 +46,8 @@ pub fn unary_name(op: UnOp) -> &'static str
 
 /// The type of a result, or E04 with the word where the types have none.
 fn typed_as(alloc: Global, word: &str, kind: Option<ColType>) -> Result<ColType, EvalFail>
-    ensures { Answers (typed_as word.now kind) result }
+    ensures answer { Answers (typed_as word.now kind) result }
+    ensures own { IfErr result IsOwn }
 {
     match kind {
         Some(kind) => Ok(kind),
@@ -63,7 +64,8 @@ fn arithmetic_type(a: ColType, b: ColType) -> Option<ColType>
 
 /// The type of a range. Texts are E04 with `:`.
 pub fn range_type(alloc: Global, a: ColType, b: ColType) -> Result<ColType, EvalFail>
-    ensures { Answers (range_type a b) result }
+    ensures answer { Answers (range_type a b) result }
+    ensures own { IfErr result IsOwn }
 {
     typed_as(alloc, ":", arithmetic_type(a, b))
 }
@@ -71,7 +73,8 @@ pub fn range_type(alloc: Global, a: ColType, b: ColType) -> Result<ColType, Eval
 /// The type that a two-sided operator gives for two types. Types that it does not take are E04 with
 /// the operator.
 pub fn tail_type(alloc: Global, op: BinOp, a: ColType, b: ColType) -> Result<ColType, EvalFail>
-    ensures { Answers (tail_type op a b) result }
+    ensures answer { Answers (tail_type op a b) result }
+    ensures own { IfErr result IsOwn }
 {
     match op {
         BinOp::Arith(op) => typed_as(alloc, op_name(op), op_type(op, a, b)),
@@ -82,7 +85,8 @@ pub fn tail_type(alloc: Global, op: BinOp, a: ColType, b: ColType) -> Result<Col
 
 /// The type that `-` or `!` gives for a type, or `is.na`.
 pub fn sign_type(alloc: Global, op: UnOp, kind: ColType) -> Result<ColType, EvalFail>
-    ensures { Answers (sign_type op kind) result }
+    ensures answer { Answers (sign_type op kind) result }
+    ensures own { IfErr result IsOwn }
 {
     match op {
         UnOp::Neg => typed_as(alloc, "-", op_type(Op::Sub, kind, kind)),
@@ -93,7 +97,8 @@ pub fn sign_type(alloc: Global, op: UnOp, kind: ColType) -> Result<ColType, Eval
 
 /// The type of `fifelse`. Its test is logical, else E04 with `fifelse`.
 fn choice_type(alloc: Global, test: ColType, a: ColType, b: ColType) -> Result<ColType, EvalFail>
-    ensures { Answers (choice_type test a b) result }
+    ensures answer { Answers (choice_type test a b) result }
+    ensures own { IfErr result IsOwn }
 {
     match test {
         ColType::Lgl => Ok(common(a, b)),
@@ -102,7 +107,8 @@ fn choice_type(alloc: Global, test: ColType, a: ColType, b: ColType) -> Result<C
 }
 
 fn sum_type(alloc: Global, kind: ColType) -> Result<ColType, EvalFail>
-    ensures { Answers (sum_type kind) result }
+    ensures answer { Answers (sum_type kind) result }
+    ensures own { IfErr result IsOwn }
 {
     match kind {
         ColType::Lgl | ColType::Int => Ok(ColType::Int),
@@ -121,7 +127,8 @@ fn extreme_type(kind: ColType) -> ColType
 }
 
 fn any_type(alloc: Global, kind: ColType) -> Result<ColType, EvalFail>
-    ensures { Answers (any_type kind) result }
+    ensures answer { Answers (any_type kind) result }
+    ensures own { IfErr result IsOwn }
 {
     match kind {
         ColType::Lgl => Ok(ColType::Lgl),
@@ -130,7 +137,8 @@ fn any_type(alloc: Global, kind: ColType) -> Result<ColType, EvalFail>
 }
 
 fn all_type(alloc: Global, kind: ColType) -> Result<ColType, EvalFail>
-    ensures { Answers (all_type kind) result }
+    ensures answer { Answers (all_type kind) result }
+    ensures own { IfErr result IsOwn }
 {
     match kind {
         ColType::Lgl => Ok(ColType::Lgl),
@@ -140,7 +148,8 @@ fn all_type(alloc: Global, kind: ColType) -> Result<ColType, EvalFail>
 
 /// The type of a function of one vector.
 fn one_type(alloc: Global, f: Func, kind: ColType) -> Result<ColType, EvalFail>
-    ensures { Answers (one_type f kind) result }
+    ensures answer { Answers (one_type f kind) result }
+    ensures own { IfErr result IsOwn }
 {
     match f {
         Func::IsNa | Func::AsLogical => Ok(ColType::Lgl),
@@ -155,7 +164,8 @@ fn one_type(alloc: Global, f: Func, kind: ColType) -> Result<ColType, EvalFail>
 
 /// The type of a function of a vector and the flag `na.rm`.
 fn flagged_type(alloc: Global, f: Func, kind: ColType) -> Result<ColType, EvalFail>
-    ensures { Answers (flagged_type f kind) result }
+    ensures answer { Answers (flagged_type f kind) result }
+    ensures own { IfErr result IsOwn }
 {
     match f {
         Func::Sum => sum_type(alloc, kind),
@@ -172,7 +182,8 @@ fn three_type(
     a: ColType,
     b: ColType,
 ) -> Result<ColType, EvalFail>
-    ensures { Answers (three_type f test a b) result }
+    ensures answer { Answers (three_type f test a b) result }
+    ensures own { IfErr result IsOwn }
 {
     match f {
         Func::Fifelse => choice_type(alloc, test, a, b),
@@ -181,7 +192,8 @@ fn three_type(
 }
 
 fn type_of_one(alloc: Global, f: Func, x: &Slot<ColType>) -> Result<ColType, EvalFail>
-    ensures { Answers (type_of_one f x.now) result }
+    ensures answer { Answers (type_of_one f x.now) result }
+    ensures own { IfErr result IsOwn }
 {
     match x {
         Slot::Given(kind) => one_type(alloc, f, *kind),
@@ -195,7 +207,8 @@ fn type_of_two(
     x: &Slot<ColType>,
     flag: &Slot<ColType>,
 ) -> Result<ColType, EvalFail>
-    ensures { Answers (type_of_two f x.now flag.now) result }
+    ensures answer { Answers (type_of_two f x.now flag.now) result }
+    ensures own { IfErr result IsOwn }
 {
     match (x, flag) {
         (Slot::Given(kind), Slot::Absent) => flagged_type(alloc, f, *kind),
@@ -211,7 +224,8 @@ fn type_of_three(
     a: &Slot<ColType>,
     b: &Slot<ColType>,
 ) -> Result<ColType, EvalFail>
-    ensures { Answers (type_of_three f test.now a.now b.now) result }
+    ensures answer { Answers (type_of_three f test.now a.now b.now) result }
+    ensures own { IfErr result IsOwn }
 {
     match (test, a, b) {
         (Slot::Given(test), Slot::Given(a), Slot::Given(b)) => three_type(alloc, f, *test, *a, *b),
@@ -223,7 +237,8 @@ fn type_of_three(
 /// Types that it does not take are E04 with the function.
 #[tactic(auto, unfolding(expr_model::specs::Functions::type_of))]
 pub fn func_type(alloc: Global, f: Func, given: &[Slot<ColType>]) -> Result<ColType, EvalFail>
-    ensures { Answers (type_of f given.now) result }
+    ensures answer { Answers (type_of f given.now) result }
+    ensures own { IfErr result IsOwn }
 {
     match given {
         [] => Err(stop(alloc, Code::E19, "unbuilt")),
@@ -236,7 +251,8 @@ pub fn func_type(alloc: Global, f: Func, given: &[Slot<ColType>]) -> Result<ColT
 
 /// The type of what a function tells of a table.
 pub fn description_type(alloc: Global, f: Func) -> Result<ColType, EvalFail>
-    ensures { Answers (description_type f) result }
+    ensures answer { Answers (description_type f) result }
+    ensures own { IfErr result IsOwn }
 {
     match f {
         Func::Nrow | Func::Ncol => Ok(ColType::Int),

@@ -1,9 +1,9 @@
-ghost use Rattle.std.specs.Prelude.{◌≡◌, ◌<◌, ◌≤◌, ◌^◌, length, pos, map, Ok, IfOk};
-ghost use Rattle.arg_bind.specs.Answers.{AnswersAs};
+ghost use Rattle.std.specs.Prelude.{◌≡◌, ◌<◌, ◌≤◌, ◌^◌, length, pos, map, Ok, IfOk, IfErr};
+ghost use Rattle.arg_bind.specs.Answers.{AnswersAs, IsOwn};
 ghost use Rattle.dt_base.specs.Warns.{no_warns};
 ghost use Rattle.dt_base.specs.declared.cell.Cell.TheVariants as is;
 ghost use Rattle.expr_eval.specs.Scope.{env_of, IsScope};
-ghost use Rattle.expr_model.specs.Meaning.{quiet};
+ghost use Rattle.session_model.specs.Expression.{quiet};
 ghost use Rattle.expr_model.specs.Surroundings.{var_vector, bracket_vector, group_vector, special_vector, name_vector, row_number, integer};
 ghost use Rattle.na_vector.specs.Words.{int_cell};
 ghost use Rattle.na_words.specs.Shown.{vector_from};
@@ -51,7 +51,7 @@ fn row_words(alloc: Global, positions: &[Option<u32>]) -> Result<Vec<i64>, Alloc
 }
 
 /// The column of the rows' numbers.
-fn row_column(alloc: Global, positions: &[Option<u32>]) -> Result<Column, AllocError>
+fn position_column(alloc: Global, positions: &[Option<u32>]) -> Result<Column, AllocError>
     requires { length positions.now ≤ 16777216 }
     ensures { IfOk result (λ c. c.vector ≡ vector_from ColType.Int (map row_number positions.now)) }
 {
@@ -60,10 +60,11 @@ fn row_column(alloc: Global, positions: &[Option<u32>]) -> Result<Column, AllocE
 
 fn rows_value<V: Vars>(alloc: Global, s: &Scope<'_, V>) -> Result<Valued, EvalFail>
     requires { IsScope s.now }
-    ensures { AnswersAs valued_of (quiet (special_vector (env_of V.bound s.now) Special.Places)) result }
+    ensures answer { AnswersAs valued_of (quiet (special_vector (env_of V.bound s.now) Special.Places)) result }
+    ensures own { IfErr result IsOwn }
 {
     let _rows = s.wide.rows();
-    match row_column(alloc, s.positions) {
+    match position_column(alloc, s.positions) {
         Ok(column) => Ok(unwarned(column)),
         Err(e) => Err(EvalFail::NoMemory(e)),
     }
@@ -83,14 +84,16 @@ pub fn unwarned(column: Column) -> Valued
 /// The vector of one number.
 pub fn number_value(alloc: Global, n: u64) -> Result<Valued, EvalFail>
     requires { n < 2 ^ 63 }
-    ensures { AnswersAs valued_of (quiet (Ok (integer n))) result }
+    ensures answer { AnswersAs valued_of (quiet (Ok (integer n))) result }
+    ensures own { IfErr result IsOwn }
 {
     one::<i64>(alloc, number_word(n))
 }
 
 fn group_value(alloc: Global, group: u64) -> Result<Valued, EvalFail>
     requires { group < 2 ^ 63 }
-    ensures { AnswersAs valued_of (quiet (group_vector group)) result }
+    ensures answer { AnswersAs valued_of (quiet (group_vector group)) result }
+    ensures own { IfErr result IsOwn }
 {
     if group == 0 {
         return Err(stop(alloc, Code::E03, ".GRP"));
@@ -105,7 +108,8 @@ fn special_value<V: Vars>(
     special: Special,
 ) -> Result<Valued, EvalFail>
     requires { IsScope s.now }
-    ensures { AnswersAs valued_of (quiet (special_vector (env_of V.bound s.now) special)) result }
+    ensures answer { AnswersAs valued_of (quiet (special_vector (env_of V.bound s.now) special)) result }
+    ensures own { IfErr result IsOwn }
 {
     match special {
         Special::Count => number_value(alloc, s.count),
@@ -121,7 +125,8 @@ fn copied<L: Ledger>(
     column: &Column,
     steps: &mut Steps<L>,
 ) -> Result<Valued, EvalFail>
-    ensures { AnswersAs valued_of (quiet (Ok column.now.vector)) result }
+    ensures answer { AnswersAs valued_of (quiet (Ok column.now.vector)) result }
+    ensures own { IfErr result IsOwn }
 {
     match column.copy(alloc, steps) {
         Ok(column) => Ok(unwarned(column)),
@@ -135,7 +140,8 @@ fn outside_value<V: Vars, L: Ledger>(
     name: &str,
     steps: &mut Steps<L>,
 ) -> Result<Valued, EvalFail>
-    ensures { AnswersAs valued_of (quiet (var_vector Code.E02 name.now (V.bound vars.now name.now))) result }
+    ensures answer { AnswersAs valued_of (quiet (var_vector Code.E02 name.now (V.bound vars.now name.now))) result }
+    ensures own { IfErr result IsOwn }
 {
     let column = var_vector(alloc, vars, Code::E02, name)?;
     copied(alloc, column, steps)
@@ -148,7 +154,8 @@ fn bracket_value<V: Vars, L: Ledger>(
     steps: &mut Steps<L>,
 ) -> Result<Valued, EvalFail>
     requires { IsScope s.now }
-    ensures { AnswersAs valued_of (quiet (bracket_vector (env_of V.bound s.now) name.now)) result }
+    ensures answer { AnswersAs valued_of (quiet (bracket_vector (env_of V.bound s.now) name.now)) result }
+    ensures own { IfErr result IsOwn }
 {
     let column = bracket_vector(alloc, s, name)?;
     copied(alloc, column, steps)
@@ -162,7 +169,8 @@ pub fn name_value<V: Vars, L: Ledger>(
     steps: &mut Steps<L>,
 ) -> Result<Valued, EvalFail>
     requires { IsScope s.now }
-    ensures { AnswersAs valued_of (quiet (name_vector (env_of V.bound s.now) name.now)) result }
+    ensures answer { AnswersAs valued_of (quiet (name_vector (env_of V.bound s.now) name.now)) result }
+    ensures own { IfErr result IsOwn }
 {
     if !s.inside {
         return outside_value(alloc, s.vars, name, steps);

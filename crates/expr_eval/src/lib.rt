@@ -1,4 +1,18 @@
-//! wip
+//! What expressions give where a vector is wanted: a type, and a value.
+//!
+//! - `check` gives the type of an expression, or its first fault, and looks at no cell.
+//! - `eval` gives its value with its warnings, or its first fault.
+//! - `Scope` is what an expression meets: the columns of its rows, the columns of the one row that all
+//!   rows share, the rows' positions, the numbers of `.N` and `.GRP`, and the script's names, which
+//!   stand behind the trait `Vars`.
+//! - `is_column` and `row_column` look a column up by its name, for what names columns.
+//!
+//! It stands on `arg_bind`, which binds arguments and has the error type, on the operators of `na_ops`,
+//! and on the functions of `vec_funcs`; it knows the tree, and no statement and no bracket. It promises
+//! exactly the type `check_of` and exactly the value `value_in` of `session_model`, Meaning: the fault is
+//! the first in the order of the definition, and no fault is left out or added. Want of memory is the
+//! one free answer. No error blames a file. A tree is gone through once by each of the two, and a column
+//! is copied where a name stands for it alone.
 #![tactic(auto)]
 
 mod applied;
@@ -15,5 +29,6 @@ mod tables;
 mod values;
 
 pub use checks::check;
+pub use names::{is_column, row_column};
 pub use scope::{Scope, Vars};
 pub use values::eval;

@@ -1,6 +1,6 @@
-ghost use Rattle.std.specs.Prelude.{◌≡◌, Ok};
-ghost use Rattle.arg_bind.specs.Answers.{AnswersAs};
-ghost use Rattle.expr_model.specs.Meaning.{quiet};
+ghost use Rattle.std.specs.Prelude.{◌≡◌, Ok, IfErr};
+ghost use Rattle.arg_bind.specs.Answers.{AnswersAs, IsOwn};
+ghost use Rattle.session_model.specs.Expression.{quiet};
 ghost use Rattle.expr_model.specs.Surroundings.{one_cell};
 ghost use Rattle.session_model.specs.Form.{literal_cell};
 ghost use Rattle.vec_funcs.specs.Valued.{valued_of};
@@ -14,7 +14,8 @@ use vec_funcs::{Valued, one};
 
 /// A logical literal; any other cell counts as NA.
 fn lgl_literal(alloc: Global, cell: &Cell) -> Result<Valued, EvalFail>
-    ensures { AnswersAs valued_of (quiet (Ok (one_cell ColType.Lgl (literal_cell ColType.Lgl cell.now)))) result }
+    ensures answer { AnswersAs valued_of (quiet (Ok (one_cell ColType.Lgl (literal_cell ColType.Lgl cell.now)))) result }
+    ensures own { IfErr result IsOwn }
 {
     match cell {
         Cell::Lgl(b) => one::<u8>(alloc, *b as u8),
@@ -24,7 +25,8 @@ fn lgl_literal(alloc: Global, cell: &Cell) -> Result<Valued, EvalFail>
 
 /// An integer literal; any other cell counts as NA.
 fn int_literal(alloc: Global, cell: &Cell) -> Result<Valued, EvalFail>
-    ensures { AnswersAs valued_of (quiet (Ok (one_cell ColType.Int (literal_cell ColType.Int cell.now)))) result }
+    ensures answer { AnswersAs valued_of (quiet (Ok (one_cell ColType.Int (literal_cell ColType.Int cell.now)))) result }
+    ensures own { IfErr result IsOwn }
 {
     match cell {
         Cell::Int(n) => one::<i64>(alloc, *n),
@@ -33,7 +35,8 @@ fn int_literal(alloc: Global, cell: &Cell) -> Result<Valued, EvalFail>
 }
 
 fn text_value(alloc: Global, text: &Text) -> Result<Valued, EvalFail>
-    ensures { AnswersAs valued_of (quiet (Ok (one_cell ColType.Chr (Cell.Text text.now)))) result }
+    ensures answer { AnswersAs valued_of (quiet (Ok (one_cell ColType.Chr (Cell.Text text.now)))) result }
+    ensures own { IfErr result IsOwn }
 {
     let text = text.copy()?;
     one::<Option<Text>>(alloc, Some(text))
@@ -41,7 +44,8 @@ fn text_value(alloc: Global, text: &Text) -> Result<Valued, EvalFail>
 
 /// A text literal; any other cell counts as NA.
 fn text_literal(alloc: Global, cell: &Cell) -> Result<Valued, EvalFail>
-    ensures { AnswersAs valued_of (quiet (Ok (one_cell ColType.Chr (literal_cell ColType.Chr cell.now)))) result }
+    ensures answer { AnswersAs valued_of (quiet (Ok (one_cell ColType.Chr (literal_cell ColType.Chr cell.now)))) result }
+    ensures own { IfErr result IsOwn }
 {
     match cell {
         Cell::Text(text) => text_value(alloc, text),
@@ -51,7 +55,8 @@ fn text_literal(alloc: Global, cell: &Cell) -> Result<Valued, EvalFail>
 
 /// The vector of a literal: one cell of its type.
 pub fn literal_value(alloc: Global, kind: ColType, cell: &Cell) -> Result<Valued, EvalFail>
-    ensures { AnswersAs valued_of (quiet (Ok (one_cell kind (literal_cell kind cell.now)))) result }
+    ensures answer { AnswersAs valued_of (quiet (Ok (one_cell kind (literal_cell kind cell.now)))) result }
+    ensures own { IfErr result IsOwn }
 {
     match kind {
         ColType::Lgl => lgl_literal(alloc, cell),

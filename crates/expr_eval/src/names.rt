@@ -1,8 +1,9 @@
-ghost use Rattle.std.specs.Prelude.{◌≡◌, ◌<◌, length, IfSome};
-ghost use Rattle.arg_bind.specs.Answers.{Answers, AnswersAs};
+ghost use Rattle.std.specs.Prelude.{◌≡◌, ◌<◌, false, is_some, length, IfSome, IfErr};
+ghost use Rattle.arg_bind.specs.Answers.{Answers, AnswersAs, IsOwn, is_of_file};
 ghost use Rattle.dt_model.specs.Table.{place_of};
 ghost use Rattle.expr_eval.specs.Scope.{env_of, IsScope, vector_lent, table_lent, column_seen, columns_of};
-ghost use Rattle.expr_model.specs.Meaning.{kind_in};
+ghost use Rattle.session_model.specs.Columns.{is_column};
+ghost use Rattle.session_model.specs.Expression.{kind_in};
 ghost use Rattle.expr_model.specs.Surroundings.{column_named, var_vector, var_table, bracket_vector, group_vector, special_vector, name_vector};
 
 use crate::{Scope, Vars};
@@ -22,7 +23,9 @@ pub fn var_vector<'a, V: Vars>(
     code: Code,
     name: &str,
 ) -> Result<&'a Column, EvalFail>
-    ensures { AnswersAs vector_lent (var_vector code name.now (V.bound vars.entry.now name.now)) result }
+    requires { is_of_file code ≡ false }
+    ensures answer { AnswersAs vector_lent (var_vector code name.now (V.bound vars.entry.now name.now)) result }
+    ensures own { IfErr result IsOwn }
 {
     match vars.vector(name) {
         Some(column) => Ok(column),
@@ -37,7 +40,8 @@ pub fn var_vector<'a, V: Vars>(
 /// unknown name is E02.
 #[tactic(auto, using(crate::proofs::Bindings::bindings))]
 pub fn var_table<'a, V: Vars>(alloc: Global, vars: &'a V, name: &str) -> Result<&'a Table, EvalFail>
-    ensures { AnswersAs table_lent (var_table name.now (V.bound vars.entry.now name.now)) result }
+    ensures answer { AnswersAs table_lent (var_table name.now (V.bound vars.entry.now name.now)) result }
+    ensures own { IfErr result IsOwn }
 {
     match vars.table(name) {
         Some(table) => Ok(table),
@@ -67,6 +71,37 @@ fn column_named<'a>(names: &[ColName], frame: &'a Frame, name: &str) -> Option<&
     }
 }
 
+/// Whether a column of the frame has the name.
+fn stands_in(names: &[ColName], frame: &Frame, name: &str) -> bool
+    requires { length names.now ≡ length frame.now.columns }
+    ensures { result ≡ is_some (column_named name.now (columns_of names.now frame.now)) }
+{
+    match column_named(names, frame, name) {
+        Some(_) => true,
+        None => false,
+    }
+}
+
+/// Whether a column has the name: one of the rows, or of the one row that all rows share.
+///
+/// A list names the column that a bare name gives after it. The manual's page data.table.
+pub fn is_column<V: Vars>(s: &Scope<'_, V>, name: &str) -> bool
+    requires { IsScope s.now }
+    ensures { result ≡ is_column (env_of V.bound s.now) name.now }
+{
+    stands_in(s.single_names, s.single, name) || stands_in(s.names, s.wide, name)
+}
+
+/// The column of the rows that has the name, if there is one. It is lent and no cell is looked at.
+///
+/// It serves lists of names, as `DT[, c("a", "b")]`. The manual's page data.table.
+pub fn row_column<'a, V: Vars>(s: &Scope<'a, V>, name: &str) -> Option<&'a Column>
+    requires { IsScope s.now }
+    ensures { column_seen result ≡ column_named name.now (env_of V.bound s.now).rows }
+{
+    column_named(s.names, s.wide, name)
+}
+
 /// The vector that a name gives in a bracket, special names apart: the columns of the one row come
 /// before the rows', and these before the script's vectors. Any other name is E03 with it.
 pub fn bracket_vector<'a, V: Vars>(
@@ -75,7 +110,8 @@ pub fn bracket_vector<'a, V: Vars>(
     name: &str,
 ) -> Result<&'a Column, EvalFail>
     requires { IsScope s.now }
-    ensures { AnswersAs vector_lent (bracket_vector (env_of V.bound s.now) name.now) result }
+    ensures answer { AnswersAs vector_lent (bracket_vector (env_of V.bound s.now) name.now) result }
+    ensures own { IfErr result IsOwn }
 {
     if let Some(column) = column_named(s.single_names, s.single, name) {
         return Ok(column);
@@ -88,7 +124,8 @@ pub fn bracket_vector<'a, V: Vars>(
 
 /// The type of `.GRP`. Where there are no groups it is E03.
 fn group_kind(alloc: Global, group: u64) -> Result<ColType, EvalFail>
-    ensures { Answers (kind_in (group_vector group)) result }
+    ensures answer { Answers (kind_in (group_vector group)) result }
+    ensures own { IfErr result IsOwn }
 {
     if group == 0 {
         return Err(stop(alloc, Code::E03, ".GRP"));
@@ -102,7 +139,8 @@ fn special_kind<V: Vars>(
     s: &Scope<'_, V>,
     special: Special,
 ) -> Result<ColType, EvalFail>
-    ensures { Answers (kind_in (special_vector (env_of V.bound s.now) special)) result }
+    ensures answer { Answers (kind_in (special_vector (env_of V.bound s.now) special)) result }
+    ensures own { IfErr result IsOwn }
 {
     match special {
         Special::Count => Ok(ColType::Int),
@@ -113,14 +151,16 @@ fn special_kind<V: Vars>(
 }
 
 fn outside_kind<V: Vars>(alloc: Global, vars: &V, name: &str) -> Result<ColType, EvalFail>
-    ensures { Answers (kind_in (var_vector Code.E02 name.now (V.bound vars.now name.now))) result }
+    ensures answer { Answers (kind_in (var_vector Code.E02 name.now (V.bound vars.now name.now))) result }
+    ensures own { IfErr result IsOwn }
 {
     Ok(var_vector(alloc, vars, Code::E02, name)?.kind())
 }
 
 fn bracket_kind<V: Vars>(alloc: Global, s: &Scope<'_, V>, name: &str) -> Result<ColType, EvalFail>
     requires { IsScope s.now }
-    ensures { Answers (kind_in (bracket_vector (env_of V.bound s.now) name.now)) result }
+    ensures answer { Answers (kind_in (bracket_vector (env_of V.bound s.now) name.now)) result }
+    ensures own { IfErr result IsOwn }
 {
     Ok(bracket_vector(alloc, s, name)?.kind())
 }
@@ -128,7 +168,8 @@ fn bracket_kind<V: Vars>(alloc: Global, s: &Scope<'_, V>, name: &str) -> Result<
 /// The type of what a name gives where a vector is wanted. It looks at no cell.
 pub fn name_kind<V: Vars>(alloc: Global, s: &Scope<'_, V>, name: &str) -> Result<ColType, EvalFail>
     requires { IsScope s.now }
-    ensures { Answers (kind_in (name_vector (env_of V.bound s.now) name.now)) result }
+    ensures answer { Answers (kind_in (name_vector (env_of V.bound s.now) name.now)) result }
+    ensures own { IfErr result IsOwn }
 {
     if !s.inside {
         return outside_kind(alloc, s.vars, name);

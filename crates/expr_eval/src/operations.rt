@@ -1,10 +1,10 @@
-ghost use Rattle.std.specs.Prelude.{◌≡◌, Ok, codes};
-ghost use Rattle.arg_bind.specs.Answers.{AnswersAs, IsStop};
+ghost use Rattle.std.specs.Prelude.{◌≡◌, Ok, codes, IfErr};
+ghost use Rattle.arg_bind.specs.Answers.{AnswersAs, IsStop, IsOwn};
 ghost use Rattle.dt_base.specs.Warns.{both_warns};
 ghost use Rattle.dt_model.specs.Operations.{binary, unary, chosen, contained};
 ghost use Rattle.expr_eval.specs.Refusals.{Refuses};
 ghost use Rattle.expr_model.specs.Functions.{choice_value, conversion, na_test};
-ghost use Rattle.expr_model.specs.Meaning.{met, signed};
+ghost use Rattle.session_model.specs.Expression.{met, signed};
 ghost use Rattle.expr_model.specs.Operators.{op_word, unary_word, op_result, length_fault, tail_value, sign_value};
 ghost use Rattle.vec_funcs.specs.Valued.{valued_of, vector_of};
 
@@ -22,7 +22,8 @@ use vec_funcs::Valued;
 
 /// A length n where m is wanted.
 pub fn stop_length(alloc: Global, n: usize, m: usize) -> EvalFail
-    ensures { IsStop (length_fault n m) result }
+    ensures answer { IsStop (length_fault n m) result }
+    ensures own { IsOwn result }
 {
     match Text::make(alloc, "") {
         Ok(what) => EvalFail::Stop(Fault {
@@ -37,7 +38,8 @@ pub fn stop_length(alloc: Global, n: usize, m: usize) -> EvalFail
 
 /// The fault of an operation that is refused, told with this word.
 fn refused(alloc: Global, word: &str, fail: OpFail) -> EvalFail
-    ensures { Refuses word.now fail result }
+    ensures answer { Refuses word.now fail result }
+    ensures own { IsOwn result }
 {
     match fail {
         OpFail::BadType => stop(alloc, Code::E04, word),
@@ -56,7 +58,8 @@ fn arith_value<L: Ledger>(
     b: &Column,
     steps: &mut Steps<L>,
 ) -> Result<Column, EvalFail>
-    ensures { AnswersAs vector_of (op_result (op_word op) (binary op a.now.vector b.now.vector)) result }
+    ensures answer { AnswersAs vector_of (op_result (op_word op) (binary op a.now.vector b.now.vector)) result }
+    ensures own { IfErr result IsOwn }
 {
     match binary(alloc, op, a, b, steps) {
         Ok(column) => Ok(column),
@@ -70,7 +73,8 @@ fn member_value<L: Ledger>(
     b: &Column,
     steps: &mut Steps<L>,
 ) -> Result<Column, EvalFail>
-    ensures { AnswersAs vector_of (Ok (contained a.now.vector b.now.vector)) result }
+    ensures answer { AnswersAs vector_of (Ok (contained a.now.vector b.now.vector)) result }
+    ensures own { IfErr result IsOwn }
 {
     match contained(alloc, a, b, steps) {
         Ok(column) => Ok(column),
@@ -86,7 +90,8 @@ fn tail_value<L: Ledger>(
     b: &Column,
     steps: &mut Steps<L>,
 ) -> Result<Column, EvalFail>
-    ensures { AnswersAs vector_of (tail_value op a.now.vector b.now.vector) result }
+    ensures answer { AnswersAs vector_of (tail_value op a.now.vector b.now.vector) result }
+    ensures own { IfErr result IsOwn }
 {
     match op {
         BinOp::Arith(op) => arith_value(alloc, op, a, b, steps),
@@ -103,7 +108,8 @@ pub fn met<L: Ledger>(
     right: &Valued,
     steps: &mut Steps<L>,
 ) -> Result<Valued, EvalFail>
-    ensures { AnswersAs valued_of (met op (valued_of left.now) (valued_of right.now)) result }
+    ensures answer { AnswersAs valued_of (met op (valued_of left.now) (valued_of right.now)) result }
+    ensures own { IfErr result IsOwn }
 {
     let column = tail_value(alloc, op, &left.column, &right.column, steps)?;
     Ok(Valued {
@@ -119,7 +125,8 @@ fn sign_value<L: Ledger>(
     a: &Column,
     steps: &mut Steps<L>,
 ) -> Result<Column, EvalFail>
-    ensures { AnswersAs vector_of (sign_value op a.now.vector) result }
+    ensures answer { AnswersAs vector_of (sign_value op a.now.vector) result }
+    ensures own { IfErr result IsOwn }
 {
     match unary(alloc, op, a, steps) {
         Ok(column) => Ok(column),
@@ -134,7 +141,8 @@ pub fn signed<L: Ledger>(
     a: &Valued,
     steps: &mut Steps<L>,
 ) -> Result<Valued, EvalFail>
-    ensures { AnswersAs valued_of (signed op (valued_of a.now)) result }
+    ensures answer { AnswersAs valued_of (signed op (valued_of a.now)) result }
+    ensures own { IfErr result IsOwn }
 {
     let column = sign_value(alloc, op, &a.column, steps)?;
     Ok(Valued {
@@ -149,7 +157,8 @@ pub fn na_test<L: Ledger>(
     x: &Column,
     steps: &mut Steps<L>,
 ) -> Result<Valued, EvalFail>
-    ensures { AnswersAs valued_of (na_test x.now.vector) result }
+    ensures answer { AnswersAs valued_of (na_test x.now.vector) result }
+    ensures own { IfErr result IsOwn }
 {
     Ok(unwarned(sign_value(alloc, UnOp::IsNa, x, steps)?))
 }
@@ -162,7 +171,8 @@ fn chosen<L: Ledger>(
     b: &Column,
     steps: &mut Steps<L>,
 ) -> Result<Column, EvalFail>
-    ensures { AnswersAs vector_of (op_result (codes "fifelse") (chosen test.now.vector a.now.vector b.now.vector)) result }
+    ensures answer { AnswersAs vector_of (op_result (codes "fifelse") (chosen test.now.vector a.now.vector b.now.vector)) result }
+    ensures own { IfErr result IsOwn }
 {
     match choose(alloc, test, a, b, steps) {
         Ok(column) => Ok(column),
@@ -178,7 +188,8 @@ pub fn choice_value<L: Ledger>(
     b: &Column,
     steps: &mut Steps<L>,
 ) -> Result<Valued, EvalFail>
-    ensures { AnswersAs valued_of (choice_value test.now.vector a.now.vector b.now.vector) result }
+    ensures answer { AnswersAs valued_of (choice_value test.now.vector a.now.vector b.now.vector) result }
+    ensures own { IfErr result IsOwn }
 {
     Ok(unwarned(chosen(alloc, test, a, b, steps)?))
 }
@@ -190,7 +201,8 @@ pub fn conversion<L: Ledger>(
     x: &Column,
     steps: &mut Steps<L>,
 ) -> Result<Valued, EvalFail>
-    ensures { AnswersAs valued_of (conversion to x.now.vector) result }
+    ensures answer { AnswersAs valued_of (conversion to x.now.vector) result }
+    ensures own { IfErr result IsOwn }
 {
     match coerce(alloc, x, to, steps) {
         Ok((column, warns)) => Ok(Valued { column, warns }),

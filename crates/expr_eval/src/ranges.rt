@@ -1,7 +1,7 @@
-ghost use Rattle.std.specs.Prelude.{◌≡◌, ◌≢◌, ◌+◌, ◌<◌, ◌≤◌, ◌^◌, ◌+ℤ◌, ◌-ℤ◌, ◌≤ℤ◌, pos, negsuc, length, map, unsigned_abs, Some, ◌++◌, ◌∷◌, [], IfOk, IfSome, OnOk};
+ghost use Rattle.std.specs.Prelude.{◌≡◌, ◌≢◌, ◌+◌, ◌<◌, ◌≤◌, ◌^◌, ◌+ℤ◌, ◌-ℤ◌, ◌≤ℤ◌, pos, negsuc, length, map, unsigned_abs, Some, ◌++◌, ◌∷◌, [], IfOk, IfSome, OnOk, IfErr};
 ghost use Rattle.std.specs.Int.{is_negative};
 ghost use Rattle.std.specs.List.{range_with_len};
-ghost use Rattle.arg_bind.specs.Answers.{Answers, AnswersAs};
+ghost use Rattle.arg_bind.specs.Answers.{Answers, AnswersAs, IsOwn};
 ghost use Rattle.dt_model.specs.Operations.{number};
 ghost use Rattle.dt_model.specs.Vector.{cell_at};
 ghost use Rattle.expr_model.specs.Operators.{end_of, distance, towards, numbers_between, between, range};
@@ -71,6 +71,7 @@ fn end_of<L: Ledger>(
 ) -> Result<Option<i64>, EvalFail>
     ensures end { Answers (end_of column.now.vector) result }
     ensures inside { IfOk result (λ o. IfSome o IsNumber) }
+    ensures own { IfErr result IsOwn }
 {
     let n = column.len();
     if n != 1 {
@@ -174,7 +175,8 @@ fn words_between(alloc: Global, ends: &Ends, n: usize) -> Result<Vec<i64>, Alloc
 fn numbers_between(alloc: Global, ends: &Ends) -> Result<Column, EvalFail>
     requires from { IsNumber ends.now.from }
     requires to { IsNumber ends.now.to }
-    ensures { AnswersAs vector_of (between (Some ends.now.from) (Some ends.now.to)) result }
+    ensures answer { AnswersAs vector_of (between (Some ends.now.from) (Some ends.now.to)) result }
+    ensures own { IfErr result IsOwn }
 {
     let far = distance(ends.from, ends.to);
     if far >= MAX_ROWS as u128 {
@@ -190,7 +192,8 @@ fn numbers_between(alloc: Global, ends: &Ends) -> Result<Column, EvalFail>
 fn between(alloc: Global, x: Option<i64>, y: Option<i64>) -> Result<Column, EvalFail>
     requires from { IfSome x IsNumber }
     requires to { IfSome y IsNumber }
-    ensures { AnswersAs vector_of (between x y) result }
+    ensures answer { AnswersAs vector_of (between x y) result }
+    ensures own { IfErr result IsOwn }
 {
     match (x, y) {
         (Some(from), Some(to)) => numbers_between(alloc, &Ends { from, to }),
@@ -206,7 +209,8 @@ pub fn range_value<L: Ledger>(
     b: &Column,
     steps: &mut Steps<L>,
 ) -> Result<Column, EvalFail>
-    ensures { AnswersAs vector_of (range a.now.vector b.now.vector) result }
+    ensures answer { AnswersAs vector_of (range a.now.vector b.now.vector) result }
+    ensures own { IfErr result IsOwn }
 {
     range_type(alloc, a.kind(), b.kind())?;
     let x = end_of(alloc, a, steps)?;

@@ -1,10 +1,10 @@
-ghost use Rattle.std.specs.Prelude.{◌≡◌, ◌≤◌, length, map, Some, IfOk};
-ghost use Rattle.arg_bind.specs.Answers.{AnswersAs};
+ghost use Rattle.std.specs.Prelude.{◌≡◌, ◌≤◌, length, map, Some, IfOk, IfErr};
+ghost use Rattle.arg_bind.specs.Answers.{AnswersAs, IsOwn};
 ghost use Rattle.dt_base.specs.declared.cell.Cell.TheVariants as is;
 ghost use Rattle.dt_base.specs.declared.cell.ColType.TheVariants as ty;
 ghost use Rattle.dt_table.specs.Plain.{plain};
 ghost use Rattle.expr_model.specs.Functions.{description_of};
-ghost use Rattle.expr_model.specs.Meaning.{quiet};
+ghost use Rattle.session_model.specs.Expression.{quiet};
 ghost use Rattle.na_vector.specs.Words.{text_cell, text_vector};
 ghost use Rattle.na_words.specs.Shown.{vector_from};
 ghost use Rattle.vec_funcs.specs.Valued.{valued_of};
@@ -22,7 +22,8 @@ use vec_funcs::Valued;
 /// The number of rows.
 #[tactic(auto, using(crate::proofs::Plain::counts))]
 fn rows_of(alloc: Global, table: &Table) -> Result<Valued, EvalFail>
-    ensures { AnswersAs valued_of (quiet (description_of Func.Nrow (plain table.now))) result }
+    ensures answer { AnswersAs valued_of (quiet (description_of Func.Nrow (plain table.now))) result }
+    ensures own { IfErr result IsOwn }
 {
     number_value(alloc, table.frame().rows() as u64)
 }
@@ -30,7 +31,8 @@ fn rows_of(alloc: Global, table: &Table) -> Result<Valued, EvalFail>
 /// The number of columns.
 #[tactic(auto, using(crate::proofs::Plain::counts))]
 fn columns_of(alloc: Global, table: &Table) -> Result<Valued, EvalFail>
-    ensures { AnswersAs valued_of (quiet (description_of Func.Ncol (plain table.now))) result }
+    ensures answer { AnswersAs valued_of (quiet (description_of Func.Ncol (plain table.now))) result }
+    ensures own { IfErr result IsOwn }
 {
     number_value(alloc, table.names().len() as u64)
 }
@@ -58,7 +60,8 @@ fn name_column(alloc: Global, names: &[ColName]) -> Result<Column, AllocError>
 /// The names of the columns, in order. More than 16,777,216, which no script makes, are E07.
 #[tactic(auto, using(crate::proofs::Plain::counts))]
 fn names_of(alloc: Global, table: &Table) -> Result<Valued, EvalFail>
-    ensures { AnswersAs valued_of (quiet (description_of Func.Names (plain table.now))) result }
+    ensures answer { AnswersAs valued_of (quiet (description_of Func.Names (plain table.now))) result }
+    ensures own { IfErr result IsOwn }
 {
     let names = table.names();
     if names.len() > MAX_ROWS {
@@ -72,7 +75,8 @@ fn names_of(alloc: Global, table: &Table) -> Result<Valued, EvalFail>
 
 /// What `nrow`, `ncol` or `names` tells of a table.
 pub fn description(alloc: Global, f: Func, table: &Table) -> Result<Valued, EvalFail>
-    ensures { AnswersAs valued_of (quiet (description_of f (plain table.now))) result }
+    ensures answer { AnswersAs valued_of (quiet (description_of f (plain table.now))) result }
+    ensures own { IfErr result IsOwn }
 {
     match f {
         Func::Nrow => rows_of(alloc, table),

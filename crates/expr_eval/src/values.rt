@@ -1,21 +1,22 @@
-ghost use Rattle.std.specs.Prelude.{◌≡◌, ◌<◌, [], length, map};
-ghost use Rattle.arg_bind.specs.Answers.{AnswersAs};
+ghost use Rattle.std.specs.Prelude.{◌≡◌, ◌<◌, [], length, map, IfErr};
+ghost use Rattle.arg_bind.specs.Answers.{AnswersAs, IsOwn};
 ghost use Rattle.expr_eval.specs.Scope.{env_of, IsScope};
 ghost use Rattle.expr_eval.specs.Slots.{slot_of};
-ghost use Rattle.expr_model.specs.Meaning.{meaning, arg_meaning, tail_meaning, arg_names, arg_at, flag_slot, value_in, value_tail, value_tails, signed, given, slot_as, slot_at, slots, each, combined, value_vectors, value_kind, value_call};
+ghost use Rattle.session_model.specs.Expression.{names_in, arg_at, flag_slot, value_tail, value_tails, signed, given, slot_as, slot_at, slots, each, combined, value_vectors, value_kind, value_call};
+ghost use Rattle.session_model.specs.Meaning.{meaning, arg_meaning, tail_meaning, value_in};
 ghost use Rattle.func_table.specs.Calls.{is_flag, kind_of};
 ghost use Rattle.session_model.specs.Binding.{places, place_of};
 ghost use Rattle.vector_model.specs.Then.{then_do};
 ghost use Rattle.vec_funcs.specs.Valued.{valued_of};
 
 use crate::applied::{applied, combined};
-use crate::arguments::{add, bind_call, flag_given, later_call, next_in, place_in, table_given};
+use crate::arguments::{add, flag_given, later_call, table_given};
 use crate::lent::name_value;
 use crate::literals::literal_value;
 use crate::operations::{met, signed};
 use crate::tables::description;
 use crate::{Scope, Vars};
-use arg_bind::{EvalFail, stop};
+use arg_bind::{EvalFail, bind, next, place, stop};
 use dt_base::{Code, Steps, UnOp};
 use dt_tree::{Arg, Expr, Tail};
 use func_table::{
@@ -39,7 +40,8 @@ pub fn eval<V: Vars, L: Ledger>(
     steps: &mut Steps<L>,
 ) -> Result<Valued, EvalFail>
     requires { IsScope s.now }
-    ensures { AnswersAs valued_of (value_in e.now (env_of V.bound s.now)) result }
+    ensures answer { AnswersAs valued_of (value_in e.now (env_of V.bound s.now)) result }
+    ensures own { IfErr result IsOwn }
 {
     match e {
         Expr::Lit { cell, kind } => literal_value(alloc, *kind, cell),
@@ -76,7 +78,8 @@ fn eval_sign<V: Vars, L: Ledger>(
     steps: &mut Steps<L>,
 ) -> Result<Valued, EvalFail>
     requires { IsScope s.now }
-    ensures { AnswersAs valued_of (then_do (value_in e.now (env_of V.bound s.now)) (signed op)) result }
+    ensures answer { AnswersAs valued_of (then_do (value_in e.now (env_of V.bound s.now)) (signed op)) result }
+    ensures own { IfErr result IsOwn }
 {
     let value = eval(alloc, e, s, steps)?;
     signed(alloc, op, &value, steps)
@@ -91,7 +94,8 @@ fn eval_tails<V: Vars, L: Ledger>(
     steps: &mut Steps<L>,
 ) -> Result<Valued, EvalFail>
     requires { IsScope s.now }
-    ensures { AnswersAs valued_of (value_tails (env_of V.bound s.now) (valued_of first) (map tail_meaning rest.now)) result }
+    ensures answer { AnswersAs valued_of (value_tails (env_of V.bound s.now) (valued_of first) (map tail_meaning rest.now)) result }
+    ensures own { IfErr result IsOwn }
 {
     let mut value = first;
     for t in rest {
@@ -109,7 +113,8 @@ fn eval_tail<V: Vars, L: Ledger>(
     steps: &mut Steps<L>,
 ) -> Result<Valued, EvalFail>
     requires { IsScope s.now }
-    ensures { AnswersAs valued_of (value_tail (env_of V.bound s.now) (valued_of left) (tail_meaning t.now)) result }
+    ensures answer { AnswersAs valued_of (value_tail (env_of V.bound s.now) (valued_of left) (tail_meaning t.now)) result }
+    ensures own { IfErr result IsOwn }
 {
     let right = eval(alloc, &t.arg, s, steps)?;
     met(alloc, t.op, &left, &right, steps)
@@ -124,7 +129,8 @@ fn eval_call<V: Vars, L: Ledger>(
     steps: &mut Steps<L>,
 ) -> Result<Valued, EvalFail>
     requires { IsScope s.now }
-    ensures { AnswersAs valued_of (value_call (env_of V.bound s.now) name.now (map arg_meaning args.now)) result }
+    ensures answer { AnswersAs valued_of (value_call (env_of V.bound s.now) name.now (map arg_meaning args.now)) result }
+    ensures own { IfErr result IsOwn }
 {
     match func_named(name) {
         None => Err(later_call(alloc, name)),
@@ -142,7 +148,8 @@ fn eval_kind<V: Vars, L: Ledger>(
     steps: &mut Steps<L>,
 ) -> Result<Valued, EvalFail>
     requires { IsScope s.now }
-    ensures { AnswersAs valued_of (value_kind (kind_of f) (env_of V.bound s.now) f (map arg_meaning args.now)) result }
+    ensures answer { AnswersAs valued_of (value_kind (kind_of f) (env_of V.bound s.now) f (map arg_meaning args.now)) result }
+    ensures own { IfErr result IsOwn }
 {
     match kind_of(f) {
         Kind::Table => Err(stop(alloc, Code::E04, func_word(f))),
@@ -158,9 +165,10 @@ fn eval_description<V: Vars>(
     args: &[Arg],
     s: &Scope<'_, V>,
 ) -> Result<Valued, EvalFail>
-    ensures { AnswersAs valued_of (value_kind Kind.Description (env_of V.bound s.now) f (map arg_meaning args.now)) result }
+    ensures answer { AnswersAs valued_of (value_kind Kind.Description (env_of V.bound s.now) f (map arg_meaning args.now)) result }
+    ensures own { IfErr result IsOwn }
 {
-    bind_call(alloc, f, args)?;
+    bind(alloc, f, args)?;
     let table = table_given(alloc, s, args)?;
     description(alloc, f, table)
 }
@@ -174,9 +182,10 @@ fn eval_bound<V: Vars, L: Ledger>(
     steps: &mut Steps<L>,
 ) -> Result<Valued, EvalFail>
     requires { IsScope s.now }
-    ensures { AnswersAs valued_of (value_kind Kind.Vector (env_of V.bound s.now) f (map arg_meaning args.now)) result }
+    ensures answer { AnswersAs valued_of (value_kind Kind.Vector (env_of V.bound s.now) f (map arg_meaning args.now)) result }
+    ensures own { IfErr result IsOwn }
 {
-    bind_call(alloc, f, args)?;
+    bind(alloc, f, args)?;
     match arity_of(f) {
         Arity::Unnamed => eval_each(alloc, args, s, steps),
         Arity::Fixed => eval_fixed(alloc, f, args, s, steps),
@@ -193,7 +202,8 @@ fn eval_each<V: Vars, L: Ledger>(
     steps: &mut Steps<L>,
 ) -> Result<Valued, EvalFail>
     requires { IsScope s.now }
-    ensures { AnswersAs valued_of (then_do (each (λ m. m.value (env_of V.bound s.now)) [] (map arg_meaning args.now)) combined) result }
+    ensures answer { AnswersAs valued_of (then_do (each (λ m. m.value (env_of V.bound s.now)) [] (map arg_meaning args.now)) combined) result }
+    ensures own { IfErr result IsOwn }
 {
     let values = values_of_each(alloc, args, s, steps)?;
     combined(alloc, values.as_slice(), steps)
@@ -207,7 +217,8 @@ fn values_of_each<V: Vars, L: Ledger>(
     steps: &mut Steps<L>,
 ) -> Result<Vec<Valued>, EvalFail>
     requires { IsScope s.now }
-    ensures { AnswersAs (λ v. map valued_of v.items) (each (λ m. m.value (env_of V.bound s.now)) [] (map arg_meaning args.now)) result }
+    ensures answer { AnswersAs (λ v. map valued_of v.items) (each (λ m. m.value (env_of V.bound s.now)) [] (map arg_meaning args.now)) result }
+    ensures own { IfErr result IsOwn }
 {
     let mut done = Vec::new(alloc);
     for a in args {
@@ -226,7 +237,8 @@ fn eval_fixed<V: Vars, L: Ledger>(
     steps: &mut Steps<L>,
 ) -> Result<Valued, EvalFail>
     requires { IsScope s.now }
-    ensures { AnswersAs valued_of (value_vectors Arity.Fixed (env_of V.bound s.now) f (map arg_meaning args.now)) result }
+    ensures answer { AnswersAs valued_of (value_vectors Arity.Fixed (env_of V.bound s.now) f (map arg_meaning args.now)) result }
+    ensures own { IfErr result IsOwn }
 {
     let given = eval_formals(alloc, formals(f), args, s, steps)?;
     applied(alloc, f, given.as_slice(), steps)
@@ -242,14 +254,15 @@ fn eval_formals<V: Vars, L: Ledger>(
 ) -> Result<Vec<Slot<Valued>>, EvalFail>
     requires scope { IsScope s.now }
     requires few { length ps.now < 1000 }
-    ensures { AnswersAs (λ v. map slot_of v.items) (slots (λ m. m.value (env_of V.bound s.now)) (map arg_meaning args.now) [] (places (arg_names (map arg_meaning args.now)) 0 ps.now)) result }
+    ensures answer { AnswersAs (λ v. map slot_of v.items) (slots (λ m. m.value (env_of V.bound s.now)) (map arg_meaning args.now) [] (places (names_in (map arg_meaning args.now)) 0 ps.now)) result }
+    ensures own { IfErr result IsOwn }
 {
     let mut done = Vec::new(alloc);
     let mut before = 0;
     for p in ps {
         let slot = eval_formal(alloc, *p, before, args, s, steps)?;
         add(&mut done, slot)?;
-        before = next_in(args, before, *p);
+        before = next(args, before, *p);
     }
     Ok(done)
 }
@@ -264,9 +277,10 @@ fn eval_formal<V: Vars, L: Ledger>(
     steps: &mut Steps<L>,
 ) -> Result<Slot<Valued>, EvalFail>
     requires { IsScope s.now }
-    ensures { AnswersAs slot_of (slot_at (λ m. m.value (env_of V.bound s.now)) p (arg_at (map arg_meaning args.now) (place_of (arg_names (map arg_meaning args.now)) before p))) result }
+    ensures answer { AnswersAs slot_of (slot_at (λ m. m.value (env_of V.bound s.now)) p (arg_at (map arg_meaning args.now) (place_of (names_in (map arg_meaning args.now)) before p))) result }
+    ensures own { IfErr result IsOwn }
 {
-    match place_in(args, before, p) {
+    match place(args, before, p) {
         None => Ok(Slot::Absent),
         Some(i) => match args.get(i) {
             None => Ok(Slot::Absent),
@@ -284,7 +298,8 @@ fn eval_as<V: Vars, L: Ledger>(
     steps: &mut Steps<L>,
 ) -> Result<Slot<Valued>, EvalFail>
     requires { IsScope s.now }
-    ensures { AnswersAs slot_of (slot_as (λ m. m.value (env_of V.bound s.now)) p (is_flag p) (arg_meaning a.now).means) result }
+    ensures answer { AnswersAs slot_of (slot_as (λ m. m.value (env_of V.bound s.now)) p (is_flag p) (arg_meaning a.now).means) result }
+    ensures own { IfErr result IsOwn }
 {
     if is_flag(p) {
         eval_flag(alloc, p, &a.value)
@@ -294,7 +309,8 @@ fn eval_as<V: Vars, L: Ledger>(
 }
 
 fn eval_flag(alloc: Global, p: Formal, e: &Expr) -> Result<Slot<Valued>, EvalFail>
-    ensures { AnswersAs slot_of (flag_slot p (meaning e.now).form) result }
+    ensures answer { AnswersAs slot_of (flag_slot p (meaning e.now).form) result }
+    ensures own { IfErr result IsOwn }
 {
     match flag_given::<Valued>(alloc, p, e) {
         Ok(slot) => Ok(slot),
@@ -310,7 +326,8 @@ fn eval_given<V: Vars, L: Ledger>(
     steps: &mut Steps<L>,
 ) -> Result<Slot<Valued>, EvalFail>
     requires { IsScope s.now }
-    ensures { AnswersAs slot_of (given ((arg_meaning a.now).means.value (env_of V.bound s.now))) result }
+    ensures answer { AnswersAs slot_of (given ((arg_meaning a.now).means.value (env_of V.bound s.now))) result }
+    ensures own { IfErr result IsOwn }
 {
     Ok(Slot::Given(eval(alloc, &a.value, s, steps)?))
 }

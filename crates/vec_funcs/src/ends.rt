@@ -1,8 +1,8 @@
-ghost use Rattle.std.specs.Prelude.{◌≡◌, ◌+◌, ◌-◌, ◌<◌, ◌≤◌, ◌∷◌, [], pos, min, length, take, drop, IfOk};
+ghost use Rattle.std.specs.Prelude.{◌≡◌, ◌+◌, ◌-◌, ◌<◌, ◌≤◌, ◌∷◌, [], pos, min, length, take, drop, IfOk, IfErr};
 ghost use Rattle.dt_base.specs.declared.cell.Cell.TheVariants as is;
 ghost use Rattle.dt_model.specs.Vector.{cell_at};
 ghost use Rattle.vector_model.specs.Functions.{first_value, last_value, length_value};
-ghost use Rattle.arg_bind.specs.Answers.{AnswersAs};
+ghost use Rattle.arg_bind.specs.Answers.{AnswersAs, IsOwn};
 ghost use Rattle.na_vector.specs.Words.{int_cell};
 ghost use Rattle.na_words.specs.Shown.{vector_from};
 ghost use Rattle.vec_funcs.specs.Valued.{valued_of};
@@ -70,6 +70,7 @@ fn last_column<L: Ledger>(
 pub fn first<L: Ledger>(alloc: Global, x: &Column, steps: &mut Steps<L>) -> Result<Valued, EvalFail>
     ensures answer { AnswersAs valued_of (first_value x.now.vector) result }
     ensures touches { steps.new ≡ steps.old + min 1 (length x.now.vector.cells) }
+    ensures own { IfErr result IsOwn }
 {
     match first_column(alloc, x, steps) {
         Ok(column) => Ok(Valued {
@@ -88,6 +89,7 @@ pub fn first<L: Ledger>(alloc: Global, x: &Column, steps: &mut Steps<L>) -> Resu
 pub fn last<L: Ledger>(alloc: Global, x: &Column, steps: &mut Steps<L>) -> Result<Valued, EvalFail>
     ensures answer { AnswersAs valued_of (last_value x.now.vector) result }
     ensures touches { steps.new ≡ steps.old + min 1 (length x.now.vector.cells) }
+    ensures own { IfErr result IsOwn }
 {
     match last_column(alloc, x, steps) {
         Ok(column) => Ok(Valued {
@@ -112,7 +114,8 @@ fn number(n: usize) -> i64
 ///
 /// From `length` of R; docs/LANGUAGE.md, section "Functions".
 pub fn length(alloc: Global, x: &Column) -> Result<Valued, EvalFail>
-    ensures { AnswersAs valued_of (length_value x.now.vector) result }
+    ensures answer { AnswersAs valued_of (length_value x.now.vector) result }
+    ensures own { IfErr result IsOwn }
 {
     one::<i64>(alloc, number(x.len()))
 }

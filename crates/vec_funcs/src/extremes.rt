@@ -1,7 +1,7 @@
-ghost use Rattle.std.specs.Prelude.{◌≡◌, ◌+◌, ◌<◌, map, length};
+ghost use Rattle.std.specs.Prelude.{◌≡◌, ◌+◌, ◌<◌, map, length, IfErr};
 ghost use Rattle.dt_model.specs.Vector.{IsWithin};
 ghost use Rattle.vector_model.specs.Functions.{extreme_type, winner, found_value, extreme_cells, min_value, max_value};
-ghost use Rattle.arg_bind.specs.Answers.{AnswersAs};
+ghost use Rattle.arg_bind.specs.Answers.{AnswersAs, IsOwn};
 ghost use Rattle.na_words.specs.Shown.{shown};
 ghost use Rattle.vec_funcs.specs.Valued.{valued_of};
 
@@ -80,7 +80,8 @@ fn word_given<A: Ranked, W: Target + Drop>(
     p: usize,
 ) -> Result<Valued, EvalFail>
     requires { p < length words.now }
-    ensures { AnswersAs valued_of (found_value W.kind (standing (map A.cell words.now) (Some p))) result }
+    ensures answer { AnswersAs valued_of (found_value W.kind (standing (map A.cell words.now) (Some p))) result }
+    ensures own { IfErr result IsOwn }
 {
     match W::of::<A>(alloc, &words[p]) {
         Ok(word) => one::<W>(alloc, word),
@@ -90,7 +91,8 @@ fn word_given<A: Ranked, W: Target + Drop>(
 
 /// The answer where there is no cell but NA.
 fn nothing_given<W: Target + Drop>(alloc: Global) -> Result<Valued, EvalFail>
-    ensures { AnswersAs valued_of (found_value W.kind None) result }
+    ensures answer { AnswersAs valued_of (found_value W.kind None) result }
+    ensures own { IfErr result IsOwn }
 {
     one_warned::<W>(alloc, W::na(), Warns::none().with(Warn::W03))
 }
@@ -102,7 +104,8 @@ fn found_given<A: Ranked, W: Target + Drop>(
     found: Option<usize>,
 ) -> Result<Valued, EvalFail>
     requires { IsWithin (length words.now) found }
-    ensures { AnswersAs valued_of (found_value W.kind (standing (map A.cell words.now) found)) result }
+    ensures answer { AnswersAs valued_of (found_value W.kind (standing (map A.cell words.now) found)) result }
+    ensures own { IfErr result IsOwn }
 {
     match found {
         Some(p) => word_given::<A, W>(alloc, words, p),
@@ -118,9 +121,10 @@ fn extreme_words<A: Ranked, W: Target + Drop>(
     na_rm: bool,
 ) -> Result<Valued, EvalFail>
     requires { W.kind ≡ extreme_type A.kind }
-    ensures { AnswersAs valued_of
+    ensures answer { AnswersAs valued_of
         (extreme_cells (beats side (extreme_type A.kind)) (extreme_type A.kind) na_rm
         (map A.cell words.now)) result }
+    ensures own { IfErr result IsOwn }
 {
     if meets_na(na_rm, words) {
         return one::<W>(alloc, W::na());
@@ -130,7 +134,8 @@ fn extreme_words<A: Ranked, W: Target + Drop>(
 
 /// The least or the greatest of the words of a column.
 fn extreme_of(alloc: Global, side: Side, words: Words<'_>, na_rm: bool) -> Result<Valued, EvalFail>
-    ensures { AnswersAs valued_of (extreme_value side na_rm (shown words.entry)) result }
+    ensures answer { AnswersAs valued_of (extreme_value side na_rm (shown words.entry)) result }
+    ensures own { IfErr result IsOwn }
 {
     match words {
         Words::Lgl(x) => extreme_words::<u8, i64>(alloc, side, x, na_rm),
@@ -154,6 +159,7 @@ pub fn min<L: Ledger>(
 ) -> Result<Valued, EvalFail>
     ensures answer { AnswersAs valued_of (min_value na_rm x.now.vector) result }
     ensures touches { steps.new ≡ steps.old + length x.now.vector.cells }
+    ensures own { IfErr result IsOwn }
 {
     let words = words_of(x, steps);
     extreme_of(alloc, Side::Least, words, na_rm)
@@ -172,6 +178,7 @@ pub fn max<L: Ledger>(
 ) -> Result<Valued, EvalFail>
     ensures answer { AnswersAs valued_of (max_value na_rm x.now.vector) result }
     ensures touches { steps.new ≡ steps.old + length x.now.vector.cells }
+    ensures own { IfErr result IsOwn }
 {
     let words = words_of(x, steps);
     extreme_of(alloc, Side::Greatest, words, na_rm)

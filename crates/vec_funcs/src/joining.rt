@@ -1,6 +1,6 @@
-ghost use Rattle.std.specs.Prelude.{◌≡◌, ◌+◌, ◌≤◌, nat_lt, length, map, All, IfOk};
+ghost use Rattle.std.specs.Prelude.{◌≡◌, ◌+◌, ◌≤◌, nat_lt, length, map, All, IfOk, IfErr};
 ghost use Rattle.vector_model.specs.Combine.{common_of, kinds_of, total_length, cells_as, joined};
-ghost use Rattle.arg_bind.specs.Answers.{AnswersAs};
+ghost use Rattle.arg_bind.specs.Answers.{AnswersAs, IsOwn};
 ghost use Rattle.na_words.specs.Shown.{vector_from};
 ghost use Rattle.vec_funcs.specs.Valued.{vector_in, vector_of};
 
@@ -95,7 +95,8 @@ pub fn combine<L: Ledger>(
     values: &[Valued],
     steps: &mut Steps<L>,
 ) -> Result<Column, EvalFail>
-    ensures { AnswersAs vector_of (joined (map vector_in values.now)) result }
+    ensures answer { AnswersAs vector_of (joined (map vector_in values.now)) result }
+    ensures own { IfErr result IsOwn }
 {
     if are_too_many(values) {
         return Err(stop(alloc, Code::E07, ""));

@@ -1,7 +1,7 @@
-ghost use Rattle.std.specs.Prelude.{◌≡◌, ◌+◌, ◌^◌, ◌≤◌, ◌+ℤ◌, ◌≤ℤ◌, pos, neg_ℤ, nat_lt, unsigned_abs, length, map};
+ghost use Rattle.std.specs.Prelude.{◌≡◌, ◌+◌, ◌^◌, ◌≤◌, ◌+ℤ◌, ◌≤ℤ◌, pos, neg_ℤ, nat_lt, unsigned_abs, length, map, IfErr};
 ghost use Rattle.dt_model.specs.Operations.{number, whole};
 ghost use Rattle.vector_model.specs.Functions.{amount, total, total_value, sum_cells, sum_value};
-ghost use Rattle.arg_bind.specs.Answers.{AnswersAs};
+ghost use Rattle.arg_bind.specs.Answers.{AnswersAs, IsOwn};
 ghost use Rattle.na_vector.specs.Words.{int_cell};
 ghost use Rattle.na_words.specs.Shown.{shown, IsShown};
 ghost use Rattle.vec_funcs.specs.Valued.{valued_of};
@@ -74,7 +74,8 @@ fn word_of(n: i128) -> Option<i64>
 
 /// The total as an answer.
 fn total_given(alloc: Global, n: i128) -> Result<Valued, EvalFail>
-    ensures { AnswersAs valued_of (total_value (whole n)) result }
+    ensures answer { AnswersAs valued_of (total_value (whole n)) result }
+    ensures own { IfErr result IsOwn }
 {
     match word_of(n) {
         Some(word) => one::<i64>(alloc, word),
@@ -85,7 +86,8 @@ fn total_given(alloc: Global, n: i128) -> Result<Valued, EvalFail>
 /// The sum of words that are numbers.
 fn sum_words<A: Number>(alloc: Global, words: &[A], na_rm: bool) -> Result<Valued, EvalFail>
     requires { length words.now ≤ 16777216 }
-    ensures { AnswersAs valued_of (sum_cells na_rm (map A.cell words.now)) result }
+    ensures answer { AnswersAs valued_of (sum_cells na_rm (map A.cell words.now)) result }
+    ensures own { IfErr result IsOwn }
 {
     if meets_na(na_rm, words) {
         return one::<i64>(alloc, NA_WORD);
@@ -96,7 +98,8 @@ fn sum_words<A: Number>(alloc: Global, words: &[A], na_rm: bool) -> Result<Value
 /// The sum of the words of a column.
 fn sum_of(alloc: Global, words: Words<'_>, na_rm: bool) -> Result<Valued, EvalFail>
     requires { IsShown words }
-    ensures { AnswersAs valued_of (sum_value na_rm (shown words.entry)) result }
+    ensures answer { AnswersAs valued_of (sum_value na_rm (shown words.entry)) result }
+    ensures own { IfErr result IsOwn }
 {
     match words {
         Words::Lgl(x) => sum_words::<u8>(alloc, x, na_rm),
@@ -120,6 +123,7 @@ pub fn sum<L: Ledger>(
 ) -> Result<Valued, EvalFail>
     ensures answer { AnswersAs valued_of (sum_value na_rm x.now.vector) result }
     ensures touches { steps.new ≡ steps.old + length x.now.vector.cells }
+    ensures own { IfErr result IsOwn }
 {
     let words = words_of(x, steps);
     sum_of(alloc, words, na_rm)

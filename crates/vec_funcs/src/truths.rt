@@ -1,9 +1,9 @@
-ghost use Rattle.std.specs.Prelude.{◌≡◌, ◌+◌, map, length, if◌then◌else◌};
+ghost use Rattle.std.specs.Prelude.{◌≡◌, ◌+◌, map, length, if◌then◌else◌, IfErr};
 ghost use Rattle.std.specs.List.{list_any};
 ghost use Rattle.dt_base.specs.declared.cell.Cell.TheVariants as is;
 ghost use Rattle.dt_model.specs.Coercion.{is_na};
 ghost use Rattle.vector_model.specs.Functions.{is_true, is_false, any_cell, all_cell, any_value, all_value};
-ghost use Rattle.arg_bind.specs.Answers.{AnswersAs};
+ghost use Rattle.arg_bind.specs.Answers.{AnswersAs, IsOwn};
 ghost use Rattle.na_vector.specs.Words.{lgl_cell, lgl_vector, IsLglWord};
 ghost use Rattle.na_words.specs.Shown.{shown};
 ghost use Rattle.vec_funcs.specs.Valued.{valued_of};
@@ -81,21 +81,24 @@ fn all_word(words: &[u8]) -> u8
 
 /// `any` of logical words.
 fn any_given(alloc: Global, words: &[u8]) -> Result<Valued, EvalFail>
-    ensures { AnswersAs valued_of (any_value (lgl_vector words.now)) result }
+    ensures answer { AnswersAs valued_of (any_value (lgl_vector words.now)) result }
+    ensures own { IfErr result IsOwn }
 {
     one::<u8>(alloc, any_word(words))
 }
 
 /// `all` of logical words.
 fn all_given(alloc: Global, words: &[u8]) -> Result<Valued, EvalFail>
-    ensures { AnswersAs valued_of (all_value (lgl_vector words.now)) result }
+    ensures answer { AnswersAs valued_of (all_value (lgl_vector words.now)) result }
+    ensures own { IfErr result IsOwn }
 {
     one::<u8>(alloc, all_word(words))
 }
 
 /// `any` of the words of a column.
 fn any_of(alloc: Global, words: Words<'_>) -> Result<Valued, EvalFail>
-    ensures { AnswersAs valued_of (any_value (shown words.entry)) result }
+    ensures answer { AnswersAs valued_of (any_value (shown words.entry)) result }
+    ensures own { IfErr result IsOwn }
 {
     match words {
         Words::Lgl(x) => any_given(alloc, x),
@@ -106,7 +109,8 @@ fn any_of(alloc: Global, words: Words<'_>) -> Result<Valued, EvalFail>
 
 /// `all` of the words of a column.
 fn all_of(alloc: Global, words: Words<'_>) -> Result<Valued, EvalFail>
-    ensures { AnswersAs valued_of (all_value (shown words.entry)) result }
+    ensures answer { AnswersAs valued_of (all_value (shown words.entry)) result }
+    ensures own { IfErr result IsOwn }
 {
     match words {
         Words::Lgl(x) => all_given(alloc, x),
@@ -124,6 +128,7 @@ fn all_of(alloc: Global, words: Words<'_>) -> Result<Valued, EvalFail>
 pub fn any<L: Ledger>(alloc: Global, x: &Column, steps: &mut Steps<L>) -> Result<Valued, EvalFail>
     ensures answer { AnswersAs valued_of (any_value x.now.vector) result }
     ensures touches { steps.new ≡ steps.old + length x.now.vector.cells }
+    ensures own { IfErr result IsOwn }
 {
     let words = words_of(x, steps);
     any_of(alloc, words)
@@ -138,6 +143,7 @@ pub fn any<L: Ledger>(alloc: Global, x: &Column, steps: &mut Steps<L>) -> Result
 pub fn all<L: Ledger>(alloc: Global, x: &Column, steps: &mut Steps<L>) -> Result<Valued, EvalFail>
     ensures answer { AnswersAs valued_of (all_value x.now.vector) result }
     ensures touches { steps.new ≡ steps.old + length x.now.vector.cells }
+    ensures own { IfErr result IsOwn }
 {
     let words = words_of(x, steps);
     all_of(alloc, words)

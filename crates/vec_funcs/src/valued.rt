@@ -1,6 +1,6 @@
-ghost use Rattle.std.specs.Prelude.{◌≡◌, ◌∷◌, [], IfOk};
+ghost use Rattle.std.specs.Prelude.{◌≡◌, ◌∷◌, [], IfOk, IfErr};
 ghost use Rattle.vector_model.specs.Functions.{plain, warned};
-ghost use Rattle.arg_bind.specs.Answers.{AnswersAs};
+ghost use Rattle.arg_bind.specs.Answers.{AnswersAs, IsOwn};
 ghost use Rattle.na_words.specs.Shown.{vector_from};
 ghost use Rattle.vec_funcs.specs.Valued.{valued_of};
 
@@ -34,7 +34,8 @@ pub fn one_warned<W: Target + Drop>(
     warns: Warns,
 ) -> Result<Valued, EvalFail>
     requires { W.fine word }
-    ensures { AnswersAs valued_of (warned warns W.kind (W.cell word ∷ [])) result }
+    ensures answer { AnswersAs valued_of (warned warns W.kind (W.cell word ∷ [])) result }
+    ensures own { IfErr result IsOwn }
 {
     match single::<W>(alloc, word) {
         Ok(column) => Ok(Valued { column, warns }),
@@ -45,7 +46,8 @@ pub fn one_warned<W: Target + Drop>(
 /// A column of one word, without a warning.
 pub fn one<W: Target + Drop>(alloc: Global, word: W) -> Result<Valued, EvalFail>
     requires { W.fine word }
-    ensures { AnswersAs valued_of (plain W.kind (W.cell word ∷ [])) result }
+    ensures answer { AnswersAs valued_of (plain W.kind (W.cell word ∷ [])) result }
+    ensures own { IfErr result IsOwn }
 {
     one_warned::<W>(alloc, word, Warns::none())
 }

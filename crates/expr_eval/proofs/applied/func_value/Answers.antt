@@ -2,12 +2,13 @@ use Rattle.std.proofs.Common.{map}
 use Rattle.expr_eval.proofs.Given.{more_given, stop_told}
 use Rattle.expr_eval.proofs.applied.func_value.Goals as goal
 use Rattle.expr_eval.specs.Slots.{slot_of}
-use Rattle.expr_model.specs.Functions.{unserved, value_of}
-use Rattle.expr_model.specs.Meaning.{slot_vector}
+use Rattle.expr_model.specs.Functions.{value_of}
+use Rattle.expr_model.specs.Unbuilt.{unbuilt}
+use Rattle.session_model.specs.Expression.{slot_vector}
 use Rattle.vec_funcs.specs.Valued.{valued_of}
 
 -- no other number of arguments is served
-pub returns-in-len4-up : goal.returns-in-len4-up
-returns-in-len4-up g c =
-    stop_told valued_of (value_of c.args.f (map slot_vector (map slot_of c.args.given.now))) unserved c.stop-in-len4-up.result
+pub returns-in-len4-up-clause-answer : goal.returns-in-len4-up-clause-answer
+returns-in-len4-up-clause-answer g c =
+    stop_told valued_of (value_of c.args.f (map slot_vector (map slot_of c.args.given.now))) unbuilt c.stop-in-len4-up.result
     (more_given c.args.f c.args.given.now c.in-len4-up.len_at_least) c.stop-in-len4-up.ensures.fault

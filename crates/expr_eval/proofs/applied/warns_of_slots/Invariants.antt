@@ -1,7 +1,7 @@
 use Rattle.std.proofs.Common.{◌≡◌, map, drop}
 use Rattle.dt_base.specs.Warns.{no_warns}
 use Rattle.expr_eval.specs.Slots.{slot_of}
-use Rattle.expr_model.specs.Meaning.{all_warns}
+use Rattle.session_model.specs.Expression.{all_warns}
 use Rattle.expr_eval.proofs.applied.warns_of_slots.Given as goal
 
 abbrev pub invariant-loop-slot : goal.invariant-loop-slot

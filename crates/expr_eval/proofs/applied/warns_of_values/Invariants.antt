@@ -1,6 +1,6 @@
 use Rattle.std.proofs.Common.{◌≡◌, map, drop}
 use Rattle.dt_base.specs.Warns.{no_warns}
-use Rattle.expr_model.specs.Meaning.{warns_of_all}
+use Rattle.session_model.specs.Expression.{warns_of_all}
 use Rattle.vec_funcs.specs.Valued.{valued_of}
 use Rattle.expr_eval.proofs.applied.warns_of_values.Given as goal
 

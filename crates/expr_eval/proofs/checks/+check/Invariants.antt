@@ -1,6 +1,7 @@
 use Rattle.std.proofs.Common.{◌≡◌, ◌≤◌, [], map, drop}
 use Rattle.expr_eval.specs.Scope.{env_of}
-use Rattle.expr_model.specs.Meaning.{arg_meaning, arg_names, tail_meaning, check_tails, each, slots}
+use Rattle.session_model.specs.Expression.{names_in, check_tails, each, slots}
+use Rattle.session_model.specs.Meaning.{arg_meaning, tail_meaning}
 use Rattle.session_model.specs.Binding.{places}
 use Rattle.expr_eval.proofs.checks.+check.Given as goal
 
@@ -17,5 +18,5 @@ invariant-kinds_of_each-loop-a g l =
 abbrev pub invariant-check_formals-loop-p : goal.invariant-check_formals-loop-p
 invariant-check_formals-loop-p g l =
     (l.before ≤ l.p-index)
-    × (slots (λ m. m.check (env_of g.V.Vars.bound l.s)) (map arg_meaning l.args) [] (places (arg_names (map arg_meaning l.args)) 0 l.ps)
-    ≡ slots (λ m. m.check (env_of g.V.Vars.bound l.s)) (map arg_meaning l.args) l.done.items (places (arg_names (map arg_meaning l.args)) l.before (drop l.p-index l.ps)))
+    × (slots (λ m. m.check (env_of g.V.Vars.bound l.s)) (map arg_meaning l.args) [] (places (names_in (map arg_meaning l.args)) 0 l.ps)
+    ≡ slots (λ m. m.check (env_of g.V.Vars.bound l.s)) (map arg_meaning l.args) l.done.items (places (names_in (map arg_meaning l.args)) l.before (drop l.p-index l.ps)))

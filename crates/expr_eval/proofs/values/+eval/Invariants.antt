@@ -1,7 +1,8 @@
 use Rattle.std.proofs.Common.{◌≡◌, ◌≤◌, [], map, drop}
 use Rattle.expr_eval.specs.Scope.{env_of}
 use Rattle.expr_eval.specs.Slots.{slot_of}
-use Rattle.expr_model.specs.Meaning.{arg_meaning, arg_names, tail_meaning, value_tails, each, slots}
+use Rattle.session_model.specs.Expression.{names_in, value_tails, each, slots}
+use Rattle.session_model.specs.Meaning.{arg_meaning, tail_meaning}
 use Rattle.session_model.specs.Binding.{places}
 use Rattle.vec_funcs.specs.Valued.{valued_of}
 use Rattle.expr_eval.proofs.values.+eval.Given as goal
@@ -19,5 +20,5 @@ invariant-values_of_each-loop-a g l =
 abbrev pub invariant-eval_formals-loop-p : goal.invariant-eval_formals-loop-p
 invariant-eval_formals-loop-p g l =
     (l.before ≤ l.p-index)
-    × (slots (λ m. m.value (env_of g.V.Vars.bound l.s)) (map arg_meaning l.args) [] (places (arg_names (map arg_meaning l.args)) 0 l.ps)
-    ≡ slots (λ m. m.value (env_of g.V.Vars.bound l.s)) (map arg_meaning l.args) (map slot_of l.done.items) (places (arg_names (map arg_meaning l.args)) l.before (drop l.p-index l.ps)))
+    × (slots (λ m. m.value (env_of g.V.Vars.bound l.s)) (map arg_meaning l.args) [] (places (names_in (map arg_meaning l.args)) 0 l.ps)
+    ≡ slots (λ m. m.value (env_of g.V.Vars.bound l.s)) (map arg_meaning l.args) (map slot_of l.done.items) (places (names_in (map arg_meaning l.args)) l.before (drop l.p-index l.ps)))

@@ -9,4 +9,4 @@ use Rattle.vec_funcs.proofs.extremes.min.Goals as goal
 pub returns-clause-answer : goal.returns-clause-answer
 returns-clause-answer g c =
     let P : Vector → Type 0 = λ v. AnswersAs valued_of (min_value c.args.na_rm v) c.extreme_of.result in
-    subst P c.words_of-words.ensures.vector c.extreme_of.ensures
+    subst P c.words_of-words.ensures.vector c.extreme_of.ensures.answer
