@@ -1,0 +1,4 @@
+pub mod Chosen
+pub mod Fitting
+pub mod Ranges
+pub mod Repeats
