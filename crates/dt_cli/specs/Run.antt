@@ -10,13 +10,16 @@
 --   Answers ends cut s v       which of both a status tells
 --   Headline held words w v s  the theorem on `run`
 --   IsByWords words s          usage is told exactly by the words
--- In each w is the world before, and v the one that is left. The files are told wherever these
--- speak.
-use Rattle.std.specs.Prelude.{◌≡◌, ◌⊎◌, ℕ, Bool, true, false, List, [], Option, None, Some, Result, Ok, Err, codes}
+--   StopsWith held b v m l     a fault is told on `err`, which held b; where the files tell nothing, it
+--                              tells a file as absent, or too long, only where m, or l, holds
+-- In each but the last w is the world before, and v the one that is left, and the files are told
+-- wherever these speak.
+use Rattle.std.specs.Prelude.{◌≡◌, ◌⊎◌, ℕ, Bool, true, false, List, [], Option, None, Some, IsNone, Result, Ok, Err, codes}
 use Rattle.std.specs.Option.{is_some}
 use Rattle.std.specs.FinMap as finite
 use Rattle.dt_base.specs.declared.fault.Fault.{Fault}
 use Rattle.dt_model.specs.State.{State, empty_state}
+use Rattle.dt_session.specs.Lines.{EndsInFault}
 use Rattle.dt_tree.specs.declared.fault.ScriptFault.{ScriptFault}
 use Rattle.dt_tree.specs.declared.tree.Script.{Script}
 use Rattle.dt_world.specs.Told.{FileMap}
@@ -24,6 +27,7 @@ use Rattle.run_model.specs.Reading.{IsReadAs, IsRefused}
 use Rattle.session_model.specs.Evaluation.{End, Evaluates, IsCutOff, line_of, script_fault}
 use Rattle.session_model.specs.Value.{file_bytes}
 use Rattle.session_model.specs.World.{World, Pieces, Parted, after, fault_pieces}
+use Rattle.stmt_value.specs.Answers.{cause_of}
 use Rattle.dt_cli.specs.Words.{Asked, asked}
 use Rattle.dt_cli.specs.declared.status.Status.{Status}
 use Rattle.dt_cli.specs.declared.status.Status.TheVariants.{Done, Stopped, Usage, ReadFault, WriteFault, NoMemory}
@@ -131,3 +135,12 @@ NeedsScript NoMemory b = Unit {0}
 
 abbrev pub IsByWords : List (List ℕ) → Status → Type 0
 IsByWords words s = NeedsScript s (is_some (asked words))
+
+-- What came on `err` after b is lines of warnings, and then the line of one fault: where `err` tells its
+-- bytes, they tell that line and the fault's code. Where the files tell nothing, that fault tells a file as
+-- absent, or as too long, only where that was so.
+pub record StopsWith (held : Option FileMap) (b v : Option (List ℕ)) (miss long : Type 0) : Type 0 where
+  pub line : ℕ
+  pub fault : Fault
+  pub told : EndsInFault b v line fault
+  pub cause : IsNone held → cause_of fault.code miss long

@@ -4,7 +4,7 @@ ghost use Rattle.dt_world.specs.Causes.{Rose};
 ghost use Rattle.session_model.specs.World.{world};
 ghost use Rattle.dt_session.specs.Answers.{AnyRose};
 ghost use Rattle.dt_cli.specs.Given.{meant, texts};
-ghost use Rattle.dt_cli.specs.Run.{Answers, AskedCut, AskedEnds, Headline, IsByWords, NeedsScript, ScriptCut, ScriptEnds, Told};
+ghost use Rattle.dt_cli.specs.Run.{Answers, AskedCut, AskedEnds, Headline, IsByWords, NeedsScript, ScriptCut, ScriptEnds, StopsWith, Told};
 ghost use Rattle.dt_cli.specs.Steps.{status_for};
 ghost use Rattle.dt_cli.specs.Words.{LacksScript, all_asked, with_name};
 
@@ -45,6 +45,7 @@ fn run_bytes<F: Files, O: Sink, E: Sink, L: Ledger>(
     ensures words { NeedsScript result true }
     ensures read { result ≡ Status.ReadFault → Rose (F.read_faults files.old) (F.read_faults files.new) }
     ensures write { result ≡ Status.WriteFault → AnyRose (Rose (O.faults out.old) (O.faults out.new)) (Rose (E.faults err.old) (E.faults err.new)) (Rose (F.write_faults files.old) (F.write_faults files.new)) }
+    ensures stopped { result ≡ Status.Stopped → StopsWith (F.held files.old) (E.bytes err.old) (E.bytes err.new) (Rose (F.misses files.old) (F.misses files.new)) (Rose (F.longs files.old) (F.longs files.new)) }
     ensures reads { F.read_faults files.old ≤ F.read_faults files.new }
 {
     let mut session = Session::new(alloc);
@@ -69,6 +70,7 @@ fn run_or_check<F: Files, O: Sink, E: Sink, L: Ledger>(
     ensures words { NeedsScript result true }
     ensures read { result ≡ Status.ReadFault → Rose (F.read_faults files.old) (F.read_faults files.new) }
     ensures write { result ≡ Status.WriteFault → AnyRose (Rose (O.faults out.old) (O.faults out.new)) (Rose (E.faults err.old) (E.faults err.new)) (Rose (F.write_faults files.old) (F.write_faults files.new)) }
+    ensures stopped { result ≡ Status.Stopped → StopsWith (F.held files.old) (E.bytes err.old) (E.bytes err.new) (Rose (F.misses files.old) (F.misses files.new)) (Rose (F.longs files.old) (F.longs files.new)) }
     ensures reads { F.read_faults files.old ≤ F.read_faults files.new }
 {
     if is_check {
@@ -91,6 +93,7 @@ fn run_asked<F: Files, O: Sink, E: Sink, L: Ledger>(
     ensures words { NeedsScript result true }
     ensures read { result ≡ Status.ReadFault → Rose (F.read_faults files.old) (F.read_faults files.new) }
     ensures write { result ≡ Status.WriteFault → AnyRose (Rose (O.faults out.old) (O.faults out.new)) (Rose (E.faults err.old) (E.faults err.new)) (Rose (F.write_faults files.old) (F.write_faults files.new)) }
+    ensures stopped { result ≡ Status.Stopped → StopsWith (F.held files.old) (E.bytes err.old) (E.bytes err.new) (Rose (F.misses files.old) (F.misses files.new)) (Rose (F.longs files.old) (F.longs files.new)) }
 {
     match files.read(asked.script, MAX_SCRIPT_BYTES) {
         Ok(bytes) => run_or_check(alloc, &bytes, asked.is_check, files, out, err, steps),
@@ -115,6 +118,7 @@ fn run_named<F: Files, O: Sink, E: Sink, L: Ledger>(
     ensures usage { result ≡ Status.Usage → LacksScript (texts words.now) }
     ensures read { result ≡ Status.ReadFault → Rose (F.read_faults files.old) (F.read_faults files.new) }
     ensures write { result ≡ Status.WriteFault → AnyRose (Rose (O.faults out.old) (O.faults out.new)) (Rose (E.faults err.old) (E.faults err.new)) (Rose (F.write_faults files.old) (F.write_faults files.new)) }
+    ensures stopped { result ≡ Status.Stopped → StopsWith (F.held files.old) (E.bytes err.old) (E.bytes err.new) (Rose (F.misses files.old) (F.misses files.new)) (Rose (F.longs files.old) (F.longs files.new)) }
 {
     match asked_by(alloc, words) {
         Ok(Some(asked)) => run_asked(alloc, &asked, files, out, err, steps),
@@ -132,6 +136,10 @@ fn run_named<F: Files, O: Sink, E: Sink, L: Ledger>(
 /// `ReadFault` only where a read failed, `WriteFault` only where a put or a write failed, and
 /// `NoMemory` where memory was wanting.
 ///
+/// At `Stopped` what came on `err` is the lines of warnings, and then the line of one fault. Where the
+/// files tell nothing of what they hold, that fault is E15 or E16 only where `files` counted a read
+/// that found no file, or one that was too long.
+///
 /// dtq's own rule, docs/LANGUAGE.md, section What runs today.
 pub fn run<F: Files, O: Sink, E: Sink, L: Ledger>(
     alloc: Global,
@@ -146,6 +154,7 @@ pub fn run<F: Files, O: Sink, E: Sink, L: Ledger>(
     ensures usage { result ≡ Status.Usage → LacksScript (with_name (map string_bytes words.now)) }
     ensures read { result ≡ Status.ReadFault → Rose (F.read_faults files.old) (F.read_faults files.new) }
     ensures write { result ≡ Status.WriteFault → AnyRose (Rose (O.faults out.old) (O.faults out.new)) (Rose (E.faults err.old) (E.faults err.new)) (Rose (F.write_faults files.old) (F.write_faults files.new)) }
+    ensures stopped { result ≡ Status.Stopped → StopsWith (F.held files.old) (E.bytes err.old) (E.bytes err.new) (Rose (F.misses files.old) (F.misses files.new)) (Rose (F.longs files.old) (F.longs files.new)) }
 {
     match named_words(alloc, words) {
         Ok(words) => run_named(alloc, &words, files, out, err, steps),

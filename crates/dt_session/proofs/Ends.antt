@@ -1,8 +1,7 @@
 -- Statements that ended early, from how the one at hand did.
-use Rattle.std.proofs.Common.{◌≡◌, ◌<◌, ◌≤◌, ℕ, List, Option, IsNone, Some, length, get_or, refl, arith}
+use Rattle.std.proofs.Common.{◌≡◌, ◌<◌, ◌≤◌, ℕ, List, Option, IsNone, length, get_or, refl, arith}
 use Rattle.dt_base.specs.declared.fault.Code.{Code}
 use Rattle.dt_base.specs.declared.fault.Code.TheVariants.{E15, E16}
-use Rattle.dt_base.specs.declared.fault.Fault.{Fault}
 use Rattle.dt_model.specs.State.{State}
 use Rattle.dt_tree.specs.declared.tree.Stmt.{Stmt}
 use Rattle.dt_world.specs.Causes.{Rose}
@@ -27,12 +26,12 @@ line_ends xs s0 w0 i l s now w v n (NoMemory x) r h e a c = cut_here xs s0 w0 i 
 pub later : (a b c : ℕ) → a ≤ b → b ≤ c → a ≤ c
 later a b c p q = omega arith
 
-cause_later : (code : Code) (m0 m1 m2 l0 l1 l2 : ℕ) → m0 ≤ m1 → l0 ≤ l1 → cause_of code (Rose m1 m2) (Rose l1 l2) → cause_of code (Rose m0 m2) (Rose l0 l2)
+-- what a later statement or call blames on a file
+pub cause_later : (code : Code) (m0 m1 m2 l0 l1 l2 : ℕ) → m0 ≤ m1 → l0 ≤ l1 → cause_of code (Rose m1 m2) (Rose l1 l2) → cause_of code (Rose m0 m2) (Rose l0 l2)
 cause_later E15 m0 m1 m2 l0 l1 l2 p q r = rose_later m0 m1 m2 p r
 cause_later E16 m0 m1 m2 l0 l1 l2 p q r = rose_later l0 l1 l2 q r
 cause_later _ m0 m1 m2 l0 l1 l2 p q r = tt
 
--- what a later statement blames on a file
 pub blames_later : (h h1 : Option FileMap) (m0 m1 m2 l0 l1 l2 : ℕ) (e : ExecFail) → (IsNone h → IsNone h1) → m0 ≤ m1 → l0 ≤ l1 → Blames h1 (Rose m1 m2) (Rose l1 l2) e → Blames h (Rose m0 m2) (Rose l0 l2) e
 blames_later h h1 m0 m1 m2 l0 l1 l2 (Stop f) u p q b = λ n. cause_later f.code m0 m1 m2 l0 l1 l2 p q (b (u n))
 blames_later h h1 m0 m1 m2 l0 l1 l2 ReadFault u p q b = tt

@@ -1,3 +1,5 @@
 pub mod Ends
 pub mod Execs
+pub mod FaultLines
+pub mod Lines
 pub mod Scripts

@@ -1,5 +1,5 @@
 -- A whole script, from the answers of its reading and of its statements.
-use Rattle.std.proofs.Common.{◌≡◌, ◌⊎◌, ℕ, List, [], Option, None, Some, Result, Ok, Err, OnOk, IfErr, refl, sym, ap, subst, ◌∙◌, inl, inr}
+use Rattle.std.proofs.Common.{◌≡◌, ℕ, List, [], Option, Some, Result, Ok, Err, OnOk, IfErr, refl, sym, ap, subst, ◌∙◌, inl, inr}
 use Rattle.dt_base.specs.declared.fault.Fault.{Fault}
 use Rattle.dt_model.specs.State.{State}
 use Rattle.dt_script.specs.Answers.{FailsAs, IsOnlyFault, fail_of}
@@ -9,11 +9,11 @@ use Rattle.dt_tree.specs.declared.fault.ScriptFault.{ScriptFault}
 use Rattle.dt_tree.specs.declared.fault.ScriptFault.TheVariants as fault
 use Rattle.dt_tree.specs.declared.tree.Script.{Script}
 use Rattle.dt_tree.specs.declared.tree.Stmt.{Stmt}
-use Rattle.dt_world.specs.Told.{appended, AppendedPart}
+use Rattle.dt_world.specs.Told.{AppendedPart}
 use Rattle.run_model.specs.Messages.{printed_fault}
 use Rattle.run_model.specs.Reading.{IsReadAs, IsRefused}
 use Rattle.session_model.proofs.Parts.{none_part, told_all}
-use Rattle.session_model.specs.Evaluation.{End, plain, stopped, IsEnd, reads, refuses, in_statement, in_refusal, IsCutOff, script_fault, line_of}
+use Rattle.session_model.specs.Evaluation.{plain, stopped, IsEnd, reads, refuses, in_statement, in_refusal, script_fault, line_of}
 use Rattle.session_model.specs.World.{World, Parted, world, fault_pieces}
 use Rattle.dt_session.specs.Answers.{ReadsAs, EndCause, EndsAs, StmtsCause, StmtsEnd, IsStopped}
 use Rattle.dt_session.specs.Refusals.{IsRefusalOf, IsNoMemory, RefusalEnd}

@@ -5,6 +5,7 @@
 //!   are put, and the change is made, which cannot fail.
 //! - `run_script` reads the bytes of a script and runs its statements until the first fault.
 //! - `ExecFail` and `RunFail` say why a statement or a script ended early.
+//! - `laws::one_fault`: what came on the other output tells which code stopped a script.
 //!
 //! It stands on `stmt_effect` for what statements do, on `table_heap` for names and tables, on
 //! `dt_script` for reading and on `dt_world` for the outside.
@@ -12,11 +13,13 @@
 //! It promises that the state, the bytes and the first fault are those of the definitions `step` and
 //! `plain`, where files tell what they hold; that a refused statement has changed nothing; that each
 //! answer that blames the outside comes only where the outside counted it; and what stands where a
-//! put or a write fails.
+//! put or a write fails. The line of the fault that stops a script stands behind lines of warnings, also
+//! where files tell nothing.
 #![tactic(auto)]
 
 mod fail;
 mod finish;
+pub mod laws;
 mod puts;
 mod run;
 mod session;

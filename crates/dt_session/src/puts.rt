@@ -51,6 +51,7 @@ pub fn put_all<F: Files, O: Sink, E: Sink>(
     ensures ok { OnOk result (world (F.held files.new) (O.bytes out.new) (E.bytes err.new) ≡ after (world (F.held files.old) (O.bytes out.old) (E.bytes err.old)) (sent effect.now lines.now)) }
     ensures part { OnErr result (Parted (world (F.held files.old) (O.bytes out.old) (E.bytes err.old)) (sent effect.now lines.now) (world (F.held files.new) (O.bytes out.new) (E.bytes err.new))) }
     ensures failed { IsErrOf result WriteFail.Failed → AnyRose (Rose (O.faults out.old) (O.faults out.new)) (Rose (E.faults err.old) (E.faults err.new)) (Rose (F.write_faults files.old) (F.write_faults files.new)) }
+    ensures lines { OnOk result (E.bytes err.new ≡ appended (E.bytes err.old) lines.now) }
     ensures out_faults { O.faults out.old ≤ O.faults out.new }
     ensures err_faults { E.faults err.old ≤ E.faults err.new }
     ensures write_faults { F.write_faults files.old ≤ F.write_faults files.new }

@@ -9,6 +9,7 @@ ghost use Rattle.session_model.specs.World.{world, look};
 ghost use Rattle.dt_base.specs.declared.fault.Code.TheVariants.{E01};
 ghost use Rattle.session_model.specs.Value.{number_fault};
 ghost use Rattle.dt_session.specs.Answers.{AnyRose, Blames, IsOwn, IsStopped, LineCause, StmtsEnd, ReadsAs, EndsAs};
+ghost use Rattle.dt_session.specs.Lines.{WarnedAt, FaultPut, TellsFault};
 ghost use Rattle.dt_session.specs.Refusals.{IsOnLine, IsRefusalOf, RefusalEnd};
 ghost use Rattle.dt_session.specs.Session.{state_of};
 
@@ -61,6 +62,8 @@ fn run_line<F: Files, O: Sink, E: Sink, L: Ledger>(
     ensures done { IsSome (F.held files.old) → OnOk result (Did stmt.now.line (step (look (F.held files.old)) (state_of session.old) stmt.now) (state_of session.old) (state_of session.new) (world (F.held files.old) (O.bytes out.old) (E.bytes err.old)) (world (F.held files.new) (O.bytes out.new) (E.bytes err.new))) }
     ensures fails { IsSome (F.held files.old) → IfErr result (LineCause stmt.now.line (step (look (F.held files.old)) (state_of session.old) stmt.now) (world (F.held files.old) (O.bytes out.old) (E.bytes err.old)) (world (F.held files.new) (O.bytes out.new) (E.bytes err.new))) }
     ensures same { OnErr result (session.new.heap.held ≡ session.old.heap.held) }
+    ensures warned { OnOk result (WarnedAt stmt.now.line (E.bytes err.old) (E.bytes err.new)) }
+    ensures put { IfErr result (FaultPut stmt.now.line (E.bytes err.old) (E.bytes err.new)) }
     ensures cause { IfErr result (Blames (F.held files.old) (Rose (F.misses files.old) (F.misses files.new)) (Rose (F.longs files.old) (F.longs files.new))) }
     ensures read { IsErrOf result ExecFail.ReadFault → Rose (F.read_faults files.old) (F.read_faults files.new) }
     ensures write { IsErrOf result ExecFail.WriteFault → AnyRose (Rose (O.faults out.old) (O.faults out.new)) (Rose (E.faults err.old) (E.faults err.new)) (Rose (F.write_faults files.old) (F.write_faults files.new)) }
@@ -91,6 +94,7 @@ fn run_stmts<F: Files, O: Sink, E: Sink, L: Ledger>(
 ) -> Result<(), RunFail>
     ensures done { IsSome (F.held files.old) → OnOk result (IsEnd (plain stmts.now (state_of session.old) (world (F.held files.old) (O.bytes out.old) (E.bytes err.old)) 0) (state_of session.new) (world (F.held files.new) (O.bytes out.new) (E.bytes err.new))) }
     ensures ends { IsSome (F.held files.old) → IfErr result (StmtsEnd stmts.now (state_of session.old) (world (F.held files.old) (O.bytes out.old) (E.bytes err.old)) (state_of session.new) (world (F.held files.new) (O.bytes out.new) (E.bytes err.new))) }
+    ensures put { IfErr result (λ r. TellsFault r.line (E.bytes err.old) (E.bytes err.new) r.cause) }
     ensures cause { IfErr result (λ r. Blames (F.held files.old) (Rose (F.misses files.old) (F.misses files.new)) (Rose (F.longs files.old) (F.longs files.new)) r.cause) }
     ensures read { IfErr result (λ r. r.cause ≡ ExecFail.ReadFault → Rose (F.read_faults files.old) (F.read_faults files.new)) }
     ensures write { IfErr result (λ r. r.cause ≡ ExecFail.WriteFault → AnyRose (Rose (O.faults out.old) (O.faults out.new)) (Rose (E.faults err.old) (E.faults err.new)) (Rose (F.write_faults files.old) (F.write_faults files.new))) }
@@ -182,7 +186,8 @@ fn refused<E: Sink>(alloc: Global, fail: ParseFail, err: &mut E) -> RunFail
 }
 
 /// Reads the bytes of a script, and runs its statements one after another until the first that is
-/// refused. The line of the fault is put on `err`.
+/// refused. The line of the fault is put on `err`, behind the lines of the warnings of those that were
+/// done.
 ///
 /// There are at most 1,048,576 bytes. A script that is refused runs no statement: E18 with line 0,
 /// and E01, E21 and E22 with their own. When a statement is refused the session stands as after the
@@ -198,6 +203,7 @@ pub fn run_script<F: Files, O: Sink, E: Sink, L: Ledger>(
     requires { length bytes.now ≤ 1048576 }
     ensures done { IsSome (F.held files.old) → OnOk result (ReadsAs bytes.now (state_of session.old) (world (F.held files.old) (O.bytes out.old) (E.bytes err.old)) (λ e. IsEnd e (state_of session.new) (world (F.held files.new) (O.bytes out.new) (E.bytes err.new)))) }
     ensures ends { IsSome (F.held files.old) → IfErr result (EndsAs bytes.now (state_of session.old) (world (F.held files.old) (O.bytes out.old) (E.bytes err.old)) (state_of session.new) (world (F.held files.new) (O.bytes out.new) (E.bytes err.new))) }
+    ensures put { IfErr result (λ r. TellsFault r.line (E.bytes err.old) (E.bytes err.new) r.cause) }
     ensures cause { IfErr result (λ r. Blames (F.held files.old) (Rose (F.misses files.old) (F.misses files.new)) (Rose (F.longs files.old) (F.longs files.new)) r.cause) }
     ensures read { IfErr result (λ r. r.cause ≡ ExecFail.ReadFault → Rose (F.read_faults files.old) (F.read_faults files.new)) }
     ensures write { IfErr result (λ r. r.cause ≡ ExecFail.WriteFault → AnyRose (Rose (O.faults out.old) (O.faults out.new)) (Rose (E.faults err.old) (E.faults err.new)) (Rose (F.write_faults files.old) (F.write_faults files.new))) }

@@ -1,5 +1,7 @@
 -- The script ran to its end, or ended early.
+use Rattle.std.proofs.Common.{◌∙◌, sym}
 use Rattle.dt_cli.proofs.Ends.{ended_early, ran}
+use Rattle.dt_cli.proofs.Stops.{ended_stops}
 use Rattle.dt_cli.proofs.run.run_bytes.Goals as goal
 
 pub returns-in-Ok-clause-ends : goal.returns-in-Ok-clause-ends
@@ -7,3 +9,6 @@ returns-in-Ok-clause-ends g c = λ told. ran c.args.bytes.now _ _ _ _ c.new-sess
 
 pub returns-clause-ends : goal.returns-clause-ends
 returns-clause-ends g c = λ told. rw c.status_for.ensures (ended_early c.args.bytes.now _ _ _ _ c.in-Err.fail c.new-session.ensures.state (c.in-Err.ensures.ends told))
+
+pub returns-clause-stopped : goal.returns-clause-stopped
+returns-clause-stopped g c = λ is. ended_stops _ _ _ _ _ c.in-Err.fail c.in-Err.ensures.put c.in-Err.ensures.cause (sym c.status_for.ensures ∙ is)

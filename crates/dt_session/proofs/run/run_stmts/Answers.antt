@@ -1,9 +1,8 @@
-use Rattle.std.proofs.Common.{◌≡◌, ◌+◌, ◌∙◌, ap}
+use Rattle.std.proofs.Common.{◌+◌, ◌∙◌, ap}
 use Rattle.session_model.proofs.Runs.{reached_next}
-use Rattle.session_model.specs.World.{world}
 use Rattle.table_heap.specs.State.{state_in}
-use Rattle.dt_session.specs.Session.{state_of}
 use Rattle.dt_session.proofs.Ends.{line_ends, blames_later, later}
+use Rattle.dt_session.proofs.Lines.{warned_next, fault_next}
 use Rattle.dt_session.proofs.run.run_stmts.Goals as goal
 
 pub returns-in-Err-clause-ends : goal.returns-in-Err-clause-ends
@@ -19,6 +18,9 @@ pub returns-in-Err-clause-cause : goal.returns-in-Err-clause-cause
 returns-in-Err-clause-cause g c =
     blames_later _ _ _ _ _ _ _ _ c.in-Err.cause c.loop-stmt.invariant.untold c.loop-stmt.invariant.reads.1 c.loop-stmt.invariant.reads.2 c.in-Err.ensures.cause
 
+pub returns-in-Err-clause-put : goal.returns-in-Err-clause-put
+returns-in-Err-clause-put g c = fault_next _ _ _ _ c.in-Err.cause c.loop-stmt.invariant.warned c.in-Err.ensures.put
+
 pub loop-stmt-preserved : goal.loop-stmt-preserved
 loop-stmt-preserved g c =
     record {
@@ -26,6 +28,7 @@ loop-stmt-preserved g c =
       told = λ told. c.in-Ok.ensures.told (c.loop-stmt.invariant.told told);
       untold = λ told. c.in-Ok.ensures.untold (c.loop-stmt.invariant.untold told);
       done = ap (λ k. k + 1) c.loop-stmt.invariant.done;
+      warned = warned_next _ _ _ _ c.loop-stmt.invariant.warned c.in-Ok.ensures.warned;
       counts = (later _ _ _ c.loop-stmt.invariant.counts.0 c.in-Ok.ensures.counts.0, later _ _ _ c.loop-stmt.invariant.counts.1 c.in-Ok.ensures.counts.1, later _ _ _ c.loop-stmt.invariant.counts.2 c.in-Ok.ensures.counts.2);
       reads = (later _ _ _ c.loop-stmt.invariant.reads.0 c.in-Ok.ensures.reads.0, later _ _ _ c.loop-stmt.invariant.reads.1 c.in-Ok.ensures.reads.1, later _ _ _ c.loop-stmt.invariant.reads.2 c.in-Ok.ensures.reads.2);
       options = c.in-Ok.ensures.options ∙ c.loop-stmt.invariant.options;
