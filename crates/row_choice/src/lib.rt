@@ -21,3 +21,6 @@ mod truths;
 pub use lengths::{common_length, repeated};
 pub use listing::all_rows;
 pub use rows::chosen_rows;
+
+#[cfg(test)]
+mod tests;
