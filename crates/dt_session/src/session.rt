@@ -9,7 +9,7 @@ ghost use Rattle.stmt_effect.specs.Effects.{FitsIn};
 ghost use Rattle.stmt_value.specs.Answers as value;
 ghost use Rattle.stmt_value.specs.Answers.{Gives};
 ghost use Rattle.table_heap.specs.State as named;
-ghost use Rattle.dt_session.specs.Answers.{Refused, PutsNothing, AnyRose, Blames, prepared_effect};
+ghost use Rattle.dt_session.specs.Answers.{Refused, PutsNothing, CountsNothing, AnyRose, Blames, prepared_effect};
 ghost use Rattle.dt_session.specs.Lines.{WarnedAt};
 ghost use Rattle.dt_session.specs.Session.{state_of, both_on, IsAlike};
 
@@ -147,6 +147,7 @@ impl Session {
         ensures same { OnErr result (self.new.heap.held ≡ self.old.heap.held) }
         ensures options { self.new.options ≡ self.old.options }
         ensures nothing { IfErr result (PutsNothing (world (F.held files.old) (O.bytes out.old) (E.bytes err.old)) (world (F.held files.new) (O.bytes out.new) (E.bytes err.new))) }
+        ensures quiet { IfErr result (CountsNothing ((O.faults out.new ≡ O.faults out.old) × (E.faults err.new ≡ E.faults err.old) × (F.write_faults files.new ≡ F.write_faults files.old))) }
         ensures warned { OnOk result (WarnedAt s.now.line (E.bytes err.old) (E.bytes err.new)) }
         ensures cause { IfErr result (Blames (F.held files.old) (Rose (F.misses files.old) (F.misses files.new)) (Rose (F.longs files.old) (F.longs files.new))) }
         ensures read { IsErrOf result ExecFail.ReadFault → Rose (F.read_faults files.old) (F.read_faults files.new) }

@@ -2,7 +2,9 @@ ghost use Rattle.std.specs.Prelude.{◌≡◌, ◌≤◌, IfOk, IfErr, IsSome, I
 ghost use Rattle.std.specs.FinMap as finite;
 ghost use Rattle.arg_bind.specs.Answers.{AnswersAs, IsOwn};
 ghost use Rattle.dt_world.specs.Causes.{Rose};
-ghost use Rattle.session_model.specs.Meaning.{meaning, arg_meaning, names_in, argument, package_named, known_package, bare_name, removed_name, written_given, command};
+ghost use Rattle.session_model.specs.Calls.{argument, package_named, known_package, bare_name, removed_name, written_given, command};
+ghost use Rattle.session_model.specs.Expression.{names_in};
+ghost use Rattle.session_model.specs.Meaning.{meaning, arg_meaning};
 ghost use Rattle.dt_table.specs.Plain.{plain};
 ghost use Rattle.run_model.specs.Csv.{written_csv};
 ghost use Rattle.session_model.specs.Binding.{is_free};
@@ -218,14 +220,6 @@ pub fn command<F: Files, L: Ledger>(
         Func::Print => print(alloc, args, heap, files, steps),
         Func::Fwrite => fwrite(alloc, args, heap, files, steps),
         Func::Rm => Ok(rm(alloc, args, heap)?),
-        Func::DataTable | Func::Fread | Func::Copy => Err(refusal(alloc, Code::E19, "unbuilt")),
-        Func::Combine | Func::IsNa | Func::Fifelse => Err(refusal(alloc, Code::E19, "unbuilt")),
-        Func::AsLogical | Func::AsInteger => Err(refusal(alloc, Code::E19, "unbuilt")),
-        Func::AsCharacter | Func::Sum | Func::Min => Err(refusal(alloc, Code::E19, "unbuilt")),
-        Func::Max | Func::Any | Func::All | Func::First => {
-            Err(refusal(alloc, Code::E19, "unbuilt"))
-        }
-        Func::Last | Func::Length | Func::Nrow => Err(refusal(alloc, Code::E19, "unbuilt")),
-        Func::Ncol | Func::Names => Err(refusal(alloc, Code::E19, "unbuilt")),
+        _ => Err(refusal(alloc, Code::E19, "unbuilt")),
     }
 }

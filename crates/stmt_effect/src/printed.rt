@@ -1,6 +1,6 @@
 ghost use Rattle.std.specs.Prelude.{IfErr, ◌≡◌, IfOk};
 ghost use Rattle.arg_bind.specs.Answers.{AnswersAs, IsOwn};
-ghost use Rattle.session_model.specs.Meaning.{printed_given};
+ghost use Rattle.session_model.specs.Calls.{printed_given};
 ghost use Rattle.session_model.specs.Statement.{bare};
 ghost use Rattle.session_model.specs.Value.{printed_value};
 ghost use Rattle.stmt_effect.specs.Effects.{plain_effect, FitsIn};

@@ -1,7 +1,8 @@
 ghost use Rattle.std.specs.Prelude.{◌≡◌, ◌≤◌, IfOk, IfErr, IsSome, IsErrOf, Some, map};
 ghost use Rattle.dt_world.specs.Causes.{Rose};
 ghost use Rattle.func_table.specs.Calls.{func_of, kind_of};
-ghost use Rattle.session_model.specs.Meaning.{meaning, arg_meaning, command_of, command_named, command_step, bound_command};
+ghost use Rattle.session_model.specs.Calls.{command_of, command_named, command_step, bound_command};
+ghost use Rattle.session_model.specs.Meaning.{meaning, arg_meaning};
 ghost use Rattle.session_model.specs.Statement.{value_step, step_of, step};
 ghost use Rattle.session_model.specs.World.{look};
 ghost use Rattle.stmt_effect.specs.Effects.{plain_effect, FitsIn};
@@ -223,7 +224,7 @@ pub fn compute<F: Files, L: Ledger>(
     ensures write_faults { F.write_faults files.new ≡ F.write_faults files.old }
     ensures cause { IfErr result (Blames (F.held files.old) (Rose (F.misses files.old) (F.misses files.new)) (Rose (F.longs files.old) (F.longs files.new))) }
 {
-    if !is_served(&stmt.expr) {
+    if !is_served(&stmt.expr, false) {
         return Err(refusal(alloc, Code::E19, "unbuilt"));
     }
     served_step(alloc, &stmt.expr, &stmt.target, heap, files, steps)

@@ -1,5 +1,5 @@
 -- The argument at a place.
-use Rattle.std.proofs.Common.{◌≡◌, ◌<◌, ◌≤◌, ℕ, List, Option, Some, None, Result, Ok, Err, length, map, slice_index_or, slice_get, option_map, refl, sym, ap, subst, ◌∙◌}
+use Rattle.std.proofs.Common.{◌≡◌, ◌<◌, ◌≤◌, ℕ, List, Option, Some, Result, Ok, Err, length, map, slice_index_or, option_map, refl, sym, ap, subst, ◌∙◌}
 use Rattle.std.proofs.lemmas.Option.{slice_get-map, slice_get_read, slice_get_past}
 use Rattle.arg_bind.specs.Answers.{AnswersAs}
 use Rattle.arg_bind.specs.Answers as eval
@@ -14,7 +14,11 @@ use Rattle.stmt_value.specs.Answers.{Gives, IsStop}
 use Rattle.stmt_value.specs.declared.fail.ValueFail.{ValueFail}
 use Rattle.stmt_value.specs.declared.fail.ValueFail.TheVariants as fail
 use Rattle.dt_tree.specs.declared.tree.Arg.{Arg}
-use Rattle.session_model.specs.Meaning.{Meaning, meaning, arg_meaning, arg_at, there, unbuilt}
+use Rattle.expr_model.specs.Unbuilt.{unbuilt}
+use Rattle.session_model.specs.Calls.{there}
+use Rattle.session_model.specs.Expression.{arg_at}
+use Rattle.session_model.specs.Meaning.{meaning, arg_meaning}
+use Rattle.session_model.specs.Meanings.{Meaning}
 use Rattle.session_model.specs.Value as model
 
 -- the argument at a place that is within the list

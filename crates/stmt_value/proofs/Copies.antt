@@ -1,7 +1,7 @@
 -- A table that is copied, read row by row.
 use Rattle.std.proofs.Common.{◌≡◌, ◌+◌, ℕ, List, map, length, refl, sym, ap, ◌∙◌, suc, pred, [], ◌∷◌}
 use Rattle.std.proofs.lemmas.List.{length-map}
-use Rattle.dt_model.specs.Table.{PlainTable, heads_of, rows_of, names_at}
+use Rattle.dt_model.specs.Table.{heads_of, rows_of, names_at}
 use Rattle.dt_model.specs.Vector.{Vector}
 use Rattle.dt_table.specs.Plain.{plain}
 use Rattle.dt_table.specs.Table.{TableSeen, IsTable, IsCopy}

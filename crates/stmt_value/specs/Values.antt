@@ -3,7 +3,6 @@
 --   plain_given g     a value and its warnings
 --   scene held heap   the files and the state that a statement meets
 --   IsValueIn h v     a table that has an Id is live
---   IsNew v           a table of its own
 use Rattle.std.specs.Prelude.{Option}
 use Rattle.dt_table.specs.Plain.{plain}
 use Rattle.dt_world.specs.Told.{FileMap}
@@ -35,8 +34,3 @@ scene held heap = record { files = look held; state = state_of heap }
 abbrev pub IsValueIn : HeapSeen → Value → Type 0
 IsValueIn h (Named id) = IsAt h id
 IsValueIn h _ = Unit {0}
-
--- a table of its own
-abbrev pub IsNew : Value → Type 0
-IsNew (New t) = Unit {0}
-IsNew _ = ⊥

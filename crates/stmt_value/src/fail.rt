@@ -1,7 +1,10 @@
+ghost use Rattle.arg_bind.specs.Answers as eval;
+ghost use Rattle.arg_bind.specs.Answers.{IsOwn};
+ghost use Rattle.expr_model.specs.Unbuilt.{unbuilt};
 ghost use Rattle.stmt_value.specs.Answers.{IsStop};
 ghost use Rattle.dt_base.specs.Fault.{fault};
 
-use arg_bind::EvalFail;
+use arg_bind::{EvalFail, stop};
 use dt_base::{Code, Fault};
 use std::alloc::{AllocError, Global};
 
@@ -46,4 +49,12 @@ pub fn refusal(alloc: Global, code: Code, what: &str) -> ValueFail
         Ok(fault) => ValueFail::Stop(fault),
         Err(error) => ValueFail::NoMemory(error),
     }
+}
+
+/// The fault of a form that no statement serves yet.
+pub fn unbuilt(alloc: Global) -> EvalFail
+    ensures answer { eval.IsStop unbuilt result }
+    ensures own { IsOwn result }
+{
+    stop(alloc, Code::E19, "unbuilt")
 }

@@ -1,16 +1,15 @@
-ghost use Rattle.std.specs.Prelude.{◌≡◌, IfSome, option_map, map};
+ghost use Rattle.std.specs.Prelude.{◌≡◌, option_map, map};
 ghost use Rattle.std.specs.List.{list_all};
-ghost use Rattle.func_table.specs.Calls.{func_of};
-ghost use Rattle.session_model.specs.Form.{Literal, literal_cell, text_in, name_in, negative, is_literal, is_bare_name};
-ghost use Rattle.dt_base.specs.declared.cell.Cell.TheVariants as is;
-ghost use Rattle.dt_base.specs.declared.cell.ColType.TheVariants as ty;
-ghost use Rattle.stmt_value.specs.Made.{IsNumber};
-ghost use Rattle.session_model.specs.Meaning.{meaning, arg_meaning, fits_args, call_served};
+ghost use Rattle.session_model.specs.Binding.{word_in};
+ghost use Rattle.session_model.specs.Form.{text_in, name_in};
+ghost use Rattle.session_model.specs.Meaning.{meaning, arg_meaning, tail_meaning, second_meaning, bracket_meaning, call_joins, call_served};
+ghost use Rattle.session_model.specs.Query.{is_served_first, is_served_second, is_served_argument, bracket_served};
 
-use dt_base::limits::NA_WORD;
 use dt_base::{Cell, ColType};
-use dt_tree::{Arg, Expr};
-use func_table::{Func, func_named, is_later};
+use dt_tree::{Arg, Bracket, Expr, Second, Tail};
+use func_table::{
+    Kind, func_named, is_bracket_argument, is_later, is_later_special, is_list, kind_of,
+};
 
 /// The text of a text literal; NA is none.
 pub fn text_literal(e: &Expr) -> Option<&str>
@@ -35,103 +34,158 @@ pub fn bare_name(e: &Expr) -> Option<&str>
     }
 }
 
-/// The integer that `-` before this expression writes, where it is an integer literal.
-pub fn negative(e: &Expr) -> Option<i64>
-    ensures value { result ≡ negative (meaning e.now).form }
-    ensures fits { IfSome result IsNumber }
+/// The name that is written before an argument; the empty text where none is.
+pub fn written_name(arg: &Arg) -> &str
+    ensures { result.now ≡ word_in (arg_meaning arg.now).name }
 {
-    match e {
-        Expr::Lit {
-            cell: Cell::Int(n),
-            kind: ColType::Int,
-        } => negated(*n),
-        _ => None,
+    match &arg.name {
+        Some(name) => name.as_str(),
+        None => "",
     }
 }
 
-/// The negative of an integer that a cell may hold.
-fn negated(n: i64) -> Option<i64>
-    ensures value { result ≡ negative (Literal (literal_cell ty.Int (is.Int n)) ty.Int) }
-    ensures fits { IfSome result IsNumber }
+/// Whether a call of this name as the i of a bracket is a join: a list, or a table function.
+fn is_joining_call(name: &str) -> bool
+    ensures { result ≡ call_joins name.now }
 {
-    if n == NA_WORD { None } else { Some(-n) }
+    if is_list(name) {
+        return true;
+    }
+    match func_named(name) {
+        None => false,
+        Some(f) => kind_of(f) == Kind::Table,
+    }
 }
 
-/// Whether the expression is a literal, with `-` before an integer allowed.
-fn is_literal(e: &Expr) -> bool
-    ensures { result ≡ is_literal (meaning e.now).form }
+/// Whether the expression as the i of a bracket is a join, whatever its names are bound to.
+fn is_join(e: &Expr) -> bool
+    ensures { result ≡ (meaning e.now).is_join }
+{
+    match e {
+        Expr::Paren { inner } => is_join(inner.get()),
+        Expr::Not { arg } => is_join(arg.get()),
+        Expr::Call { name, args: _ } => is_joining_call(name.as_str()),
+        Expr::Query {
+            head: _,
+            brackets: _,
+        } => true,
+        _ => false,
+    }
+}
+
+/// Whether statements serve all forms of the expression, where it stands inside a bracket or outside.
+#[cycle(served)]
+pub fn is_served(e: &Expr, inside: bool) -> bool
+    ensures { result ≡ (meaning e.now).served inside }
 {
     match e {
         Expr::Lit { .. } | Expr::Null | Expr::Infinite => true,
-        Expr::Minus { arg } => negative(arg.get()).is_some(),
-        _ => false,
+        Expr::Name { name } => !(inside && is_later_special(name.as_str())),
+        Expr::Paren { inner } => is_served(inner.get(), inside),
+        Expr::Minus { arg } | Expr::Not { arg } => is_served(arg.get(), inside),
+        Expr::Chain { first, rest } => {
+            is_served(first.get(), inside) && are_served_tails(rest.as_slice(), inside)
+        }
+        Expr::Call { name, args } => is_served_call(name.as_str(), args.as_slice(), inside),
+        Expr::Query { head, brackets } => {
+            is_served(head.get(), inside) && are_served_brackets(brackets.as_slice())
+        }
+        Expr::Formula { left: _, right: _ } => false,
     }
 }
 
-/// Whether statements serve all forms of the expression.
+/// Whether all right sides of these operators are served.
 #[cycle(served)]
-pub fn is_served(e: &Expr) -> bool
-    ensures { result ≡ (meaning e.now).served }
+fn are_served_tails(tails: &[Tail], inside: bool) -> bool
+    ensures { result ≡ list_all (λ t. t.means.served inside) (map tail_meaning tails.now) }
 {
-    match e {
-        Expr::Lit { .. } | Expr::Null | Expr::Infinite | Expr::Name { .. } => true,
-        Expr::Paren { inner } => is_served(inner.get()),
-        Expr::Minus { arg } => negative(arg.get()).is_some(),
-        Expr::Call { name, args } => is_served_call(name.as_str(), args.as_slice()),
-        _ => false,
-    }
-}
-
-/// Whether statements serve the call, and all forms of its arguments.
-#[cycle(served)]
-fn is_served_call(name: &str, args: &[Arg]) -> bool
-    ensures { result ≡ call_served name.now (map arg_meaning args.now) }
-{
-    !is_later(name) && are_served(args) && has_fitting(func_named(name), args)
-}
-
-/// Whether statements serve all forms of the arguments.
-#[cycle(served)]
-fn are_served(args: &[Arg]) -> bool
-    ensures { result ≡ list_all (λ a. a.means.served) (map arg_meaning args.now) }
-{
-    for arg in args {
-        if !is_served(&arg.value) {
+    for tail in tails {
+        if !is_served(&tail.arg, inside) {
             return false;
         }
     }
     true
 }
 
-/// Whether the arguments have the form that is served of this function.
-fn has_fitting(f: Option<Func>, args: &[Arg]) -> bool
-    ensures { result ≡ fits_args f (map arg_meaning args.now) }
+/// Whether the call, and all forms of its arguments, are served.
+#[cycle(served)]
+fn is_served_call(name: &str, args: &[Arg], inside: bool) -> bool
+    ensures { result ≡ call_served name.now (map arg_meaning args.now) inside }
 {
-    match f {
-        Some(Func::DataTable) => are_literals(args),
-        Some(Func::Copy) => are_names(args),
-        _ => true,
+    if is_later(name) {
+        return false;
     }
-}
-
-fn are_literals(args: &[Arg]) -> bool
-    ensures { result ≡ list_all (λ a. is_literal a.means.form) (map arg_meaning args.now) }
-{
     for arg in args {
-        if !is_literal(&arg.value) {
+        if !is_served(&arg.value, inside) {
             return false;
         }
     }
     true
 }
 
-fn are_names(args: &[Arg]) -> bool
-    ensures { result ≡ list_all (λ a. is_bare_name a.means.form) (map arg_meaning args.now) }
+#[cycle(served)]
+fn are_served_brackets(brackets: &[Bracket]) -> bool
+    ensures { result ≡ list_all bracket_served (map bracket_meaning brackets.now) }
 {
-    for arg in args {
-        if bare_name(&arg.value).is_none() {
+    for bracket in brackets {
+        if !is_served_bracket(bracket) {
             return false;
         }
     }
     true
+}
+
+/// Whether all forms of a bracket are served: it has no third item.
+#[cycle(served)]
+fn is_served_bracket(bracket: &Bracket) -> bool
+    ensures { result ≡ bracket_served (bracket_meaning bracket.now) }
+{
+    bracket.third.is_none()
+        && is_served_first(&bracket.first)
+        && is_served_second(&bracket.second)
+        && are_served_arguments(bracket.args.as_slice())
+}
+
+/// Whether what stands as i is served: it is no join.
+#[cycle(served)]
+fn is_served_first(first: &Option<Expr>) -> bool
+    ensures { result ≡ is_served_first (option_map meaning first.now) }
+{
+    match first {
+        None => true,
+        Some(i) => !is_join(i) && is_served(i, true),
+    }
+}
+
+/// Whether what stands as j is served: it is no assignment.
+#[cycle(served)]
+fn is_served_second(second: &Option<Second>) -> bool
+    ensures { result ≡ is_served_second (option_map second_meaning second.now) }
+{
+    match second {
+        None => true,
+        Some(Second::Value(j)) => is_served(j, true),
+        Some(Second::Assign { left: _, right: _ } | Second::AssignAll { args: _ }) => false,
+    }
+}
+
+#[cycle(served)]
+fn are_served_arguments(args: &[Arg]) -> bool
+    ensures { result ≡ list_all is_served_argument (map arg_meaning args.now) }
+{
+    for arg in args {
+        if !is_served_argument(arg) {
+            return false;
+        }
+    }
+    true
+}
+
+/// Whether a bracket's argument is let through: it is none that brackets have. Its fault comes when
+/// its turn comes.
+#[cycle(served)]
+fn is_served_argument(arg: &Arg) -> bool
+    ensures { result ≡ is_served_argument (arg_meaning arg.now) }
+{
+    !is_bracket_argument(written_name(arg)) && is_served(&arg.value, true)
 }

@@ -11,16 +11,16 @@
 //! that each answer that blames a file comes only where the files counted it.
 #![tactic(auto)]
 
+mod chains;
 mod fail;
 mod files;
 mod forms;
 mod given;
-mod literals;
-mod new_table;
 mod values;
+mod vars;
+mod vectors;
 
 pub use fail::{ValueFail, refusal};
 pub use forms::{bare_name, is_served};
 pub use given::{Given, Value};
-pub use literals::unbuilt;
 pub use values::{argument, named_file, value, wanted_table};

@@ -2,30 +2,30 @@ ghost use Rattle.std.specs.Prelude.{◌≡◌, ◌≤◌, IfOk, IfErr, IsSome, I
 ghost use Rattle.std.specs.FinMap as finite;
 ghost use Rattle.arg_bind.specs.Answers.{AnswersAs, IsOwn};
 ghost use Rattle.dt_world.specs.Causes.{Rose};
-ghost use Rattle.func_table.specs.Calls.{func_of, kind_of};
-ghost use Rattle.session_model.specs.Meaning.{meaning, arg_meaning, argument, negative_value, data_table, named_file, copy_of, table_call, call_of_kind, call_value};
-ghost use Rattle.dt_base.specs.Warns.{no_warns};
+ghost use Rattle.session_model.specs.Binding.{bound};
+ghost use Rattle.session_model.specs.Calls.{argument, named_file, copy_of, table_call};
+ghost use Rattle.session_model.specs.Expression.{names_in};
+ghost use Rattle.session_model.specs.Meaning.{meaning, arg_meaning, bracket_meaning};
+ghost use Rattle.session_model.specs.Query.{chained};
+ghost use Rattle.vector_model.specs.Then.{then_do};
 ghost use Rattle.dt_table.specs.Plain.{plain};
-ghost use Rattle.session_model.specs.Form.{literal_cell, negative};
-ghost use Rattle.session_model.specs.Value as model;
-ghost use Rattle.session_model.specs.Value.{bound_value, gives_value, wanted_table, copied, one_cell};
+ghost use Rattle.session_model.specs.Value.{bound_value, wanted_table, copied};
 ghost use Rattle.stmt_value.specs.Answers.{Gives, Blames};
-ghost use Rattle.stmt_value.specs.Values.{plain_value, plain_given, scene, IsValueIn, IsNew};
+ghost use Rattle.stmt_value.specs.Values.{plain_value, plain_given, scene, IsValueIn};
 ghost use Rattle.table_heap.specs.State.{state_of};
 
-use crate::fail::{ValueFail, refusal};
+use crate::fail::{ValueFail, refusal, unbuilt};
 use crate::files::file_table;
-use crate::forms::{negative, text_literal};
+use crate::forms::text_literal;
+use crate::chains::{called, chained};
 use crate::given::{Given, Value};
-use crate::literals::{integer, literal, unbuilt};
-use crate::new_table::data_table;
+use crate::vectors::{table_value, vector_value};
 use arg_bind::{EvalFail, bind, place, stop};
-use dt_base::{Cell, Code, ColType, Steps, Warns};
+use dt_base::{Code, Steps};
 use dt_table::Table;
-use dt_tree::{Arg, Expr};
+use dt_tree::{Arg, Bracket, Expr};
 use dt_world::Files;
 use func_table::{Formal, Func, Kind, func_named, func_word, kind_of};
-use na_vector::Column;
 use std::alloc::{AllocError, Global};
 use std::sync::ledger::Ledger;
 use table_heap::{Heap, Look};
@@ -54,36 +54,6 @@ pub fn argument(alloc: Global, args: &[Arg], before: usize, p: Formal) -> Result
     }
 }
 
-/// A value without warnings.
-fn quiet(value: Value<'_>) -> Given<'_>
-    ensures value { result.value ≡ value.entry }
-    ensures warns { result.warns ≡ no_warns }
-{
-    Given {
-        value,
-        warns: Warns::none(),
-    }
-}
-
-/// What a literal gives.
-fn literal_value<'a>(alloc: Global, kind: ColType, cell: &Cell) -> Result<Given<'a>, EvalFail>
-    ensures answer { AnswersAs plain_given (gives_value (model.Cells (one_cell kind (literal_cell kind cell.now)))) result }
-    ensures own { IfErr result IsOwn }
-{
-    Ok(quiet(Value::Cells(literal(alloc, kind, cell)?)))
-}
-
-/// What `-` before an integer literal gives.
-fn negative_value<'a>(alloc: Global, arg: &Expr) -> Result<Given<'a>, EvalFail>
-    ensures answer { AnswersAs plain_given (negative_value (negative (meaning arg.now).form)) result }
-    ensures own { IfErr result IsOwn }
-{
-    match negative(arg) {
-        Some(n) => Ok(quiet(Value::Cells(integer(alloc, n)?))),
-        None => Err(unbuilt(alloc)),
-    }
-}
-
 /// What a name is bound to. A name that is bound to nothing is E02.
 fn bound<'a>(alloc: Global, name: &str, heap: &'a Heap) -> Result<Given<'a>, EvalFail>
     ensures given { AnswersAs plain_given (bound_value name.now (finite.get (state_of heap.now).names name.now)) result }
@@ -92,8 +62,8 @@ fn bound<'a>(alloc: Global, name: &str, heap: &'a Heap) -> Result<Given<'a>, Eva
 {
     match heap.look(name) {
         Look::Absent => Err(stop(alloc, Code::E02, name)),
-        Look::Table(id) => Ok(quiet(Value::Named(id))),
-        Look::Vector(column) => Ok(quiet(Value::Kept(column))),
+        Look::Table(id) => Ok(Given::quiet(Value::Named(id))),
+        Look::Vector(column) => Ok(Given::quiet(Value::Kept(column))),
     }
 }
 
@@ -128,10 +98,14 @@ fn copied<L: Ledger>(
     table.copy(alloc, steps)
 }
 
-/// What an expression gives, where statements serve its form.
+/// What an expression gives as a statement's value.
 ///
-/// A name that is bound to nothing is E02, and `Inf` is E04; a call has the faults of its function. A
-/// table that has a name is given as it is, and a vector that has one is lent.
+/// A name that is bound to nothing is E02. A table that has a name is given as it is, and a vector
+/// that has one is lent. A command is E19 with its name, and a table function has the faults of its
+/// arguments. A query gives its head's value through its brackets, one after another: what stands
+/// before a bracket is a table, else E20 with its name or `[`, and E04 for NULL; an argument that a
+/// bracket does not have is E19 with its name. Anything else is a vector, whose type comes before its
+/// value. dtq's own rule, docs/LANGUAGE.md, sections "Statements" and "Queries".
 #[cycle(value)]
 pub fn value<'a, F: Files, L: Ledger>(
     alloc: Global,
@@ -151,30 +125,45 @@ pub fn value<'a, F: Files, L: Ledger>(
     ensures cause { IfErr result (Blames (F.held files.old) (Rose (F.misses files.old) (F.misses files.new)) (Rose (F.longs files.old) (F.longs files.new))) }
 {
     match e {
-        Expr::Lit { cell, kind } => Ok(literal_value(alloc, *kind, cell)?),
-        Expr::Null => Ok(quiet(Value::Null)),
-        Expr::Infinite => Err(refusal(alloc, Code::E04, "Inf")),
+        Expr::Null => Ok(Given::quiet(Value::Null)),
         Expr::Name { name } => Ok(bound(alloc, name.as_str(), heap)?),
         Expr::Paren { inner } => value(alloc, inner.get(), heap, files, steps),
-        Expr::Minus { arg } => Ok(negative_value(alloc, arg.get())?),
-        Expr::Call { name, args } => {
-            call(alloc, name.as_str(), args.as_slice(), heap, files, steps)
+        Expr::Call { name, args } => match func_named(name.as_str()) {
+            None => Ok(vector_value(alloc, e, heap, steps)?),
+            Some(f) => match kind_of(f) {
+                Kind::Vector | Kind::Description => Ok(vector_value(alloc, e, heap, steps)?),
+                Kind::Command => Err(refusal(alloc, Code::E19, func_word(f))),
+                Kind::Table => bound_call(alloc, f, args.as_slice(), heap, files, steps),
+            },
+        },
+        Expr::Query { head, brackets } => query(
+            alloc,
+            head.get(),
+            brackets.as_slice(),
+            heap,
+            files,
+            steps,
+        ),
+        Expr::Lit { .. } | Expr::Infinite | Expr::Formula { .. } => {
+            Ok(vector_value(alloc, e, heap, steps)?)
         }
-        _ => Err(refusal(alloc, Code::E19, "unbuilt")),
+        Expr::Minus { .. } | Expr::Not { .. } | Expr::Chain { .. } => {
+            Ok(vector_value(alloc, e, heap, steps)?)
+        }
     }
 }
 
-/// What a call gives. An unknown function is E02, and a command is E19 with its name.
+/// What a query gives: its head's value, and then its brackets behind it.
 #[cycle(value)]
-fn call<'a, F: Files, L: Ledger>(
+fn query<'a, F: Files, L: Ledger>(
     alloc: Global,
-    name: &str,
-    args: &[Arg],
+    head: &Expr,
+    brackets: &[Bracket],
     heap: &'a Heap,
     files: &mut F,
     steps: &mut Steps<L>,
 ) -> Result<Given<'a>, ValueFail>
-    ensures told { IsSome (F.held files.old) → Gives plain_given (call_value name.now (func_of name.now) (map arg_meaning args.now) (scene (F.held files.old) heap.now)) result }
+    ensures told { IsSome (F.held files.old) → Gives plain_given (then_do ((meaning head.now).gives (scene (F.held files.old) heap.now)) (λ g. chained (state_of heap.now) (meaning head.now).called g (map bracket_meaning brackets.now))) result }
     ensures live { IfOk result (λ g. IsValueIn heap.now g.value) }
     ensures held { F.held files.new ≡ F.held files.old }
     ensures failed { IsErrOf result ValueFail.ReadFault → Rose (F.read_faults files.old) (F.read_faults files.new) }
@@ -184,15 +173,13 @@ fn call<'a, F: Files, L: Ledger>(
     ensures write_faults { F.write_faults files.new ≡ F.write_faults files.old }
     ensures cause { IfErr result (Blames (F.held files.old) (Rose (F.misses files.old) (F.misses files.new)) (Rose (F.longs files.old) (F.longs files.new))) }
 {
-    match func_named(name) {
-        None => Err(refusal(alloc, Code::E02, name)),
-        Some(f) => known_call(alloc, f, args, heap, files, steps),
-    }
+    let given = value(alloc, head, heap, files, steps)?;
+    Ok(chained(alloc, called(head), given, brackets, heap, steps)?)
 }
 
-/// What the call of a function gives.
+/// What the call of a table function gives.
 #[cycle(value)]
-fn known_call<'a, F: Files, L: Ledger>(
+fn bound_call<'a, F: Files, L: Ledger>(
     alloc: Global,
     f: Func,
     args: &[Arg],
@@ -200,7 +187,7 @@ fn known_call<'a, F: Files, L: Ledger>(
     files: &mut F,
     steps: &mut Steps<L>,
 ) -> Result<Given<'a>, ValueFail>
-    ensures told { IsSome (F.held files.old) → Gives plain_given (call_of_kind (kind_of f) f (map arg_meaning args.now) (scene (F.held files.old) heap.now)) result }
+    ensures told { IsSome (F.held files.old) → Gives plain_given (then_do (bound f (names_in (map arg_meaning args.now))) (λ _. table_call f (map arg_meaning args.now) (scene (F.held files.old) heap.now))) result }
     ensures live { IfOk result (λ g. IsValueIn heap.now g.value) }
     ensures held { F.held files.new ≡ F.held files.old }
     ensures failed { IsErrOf result ValueFail.ReadFault → Rose (F.read_faults files.old) (F.read_faults files.new) }
@@ -210,14 +197,8 @@ fn known_call<'a, F: Files, L: Ledger>(
     ensures write_faults { F.write_faults files.new ≡ F.write_faults files.old }
     ensures cause { IfErr result (Blames (F.held files.old) (Rose (F.misses files.old) (F.misses files.new)) (Rose (F.longs files.old) (F.longs files.new))) }
 {
-    match kind_of(f) {
-        Kind::Command => Err(refusal(alloc, Code::E19, func_word(f))),
-        Kind::Vector | Kind::Description => Err(refusal(alloc, Code::E19, "unbuilt")),
-        Kind::Table => {
-            bind(alloc, f, args)?;
-            table_call(alloc, f, args, heap, files, steps)
-        }
-    }
+    bind(alloc, f, args)?;
+    table_call(alloc, f, args, heap, files, steps)
 }
 
 /// What the call of a table function gives, once its arguments are bound.
@@ -241,20 +222,11 @@ fn table_call<'a, F: Files, L: Ledger>(
     ensures cause { IfErr result (Blames (F.held files.old) (Rose (F.misses files.old) (F.misses files.new)) (Rose (F.longs files.old) (F.longs files.new))) }
 {
     match f {
-        Func::DataTable => Ok(new_value(alloc, args)?),
+        Func::DataTable => Ok(table_value(alloc, args, heap, steps)?),
         Func::Fread => file_value(alloc, args, heap, files, steps),
         Func::Copy => copy_value(alloc, args, heap, files, steps),
         _ => Err(refusal(alloc, Code::E19, "unbuilt")),
     }
-}
-
-/// What `data.table` gives.
-fn new_value<'a>(alloc: Global, args: &[Arg]) -> Result<Given<'a>, EvalFail>
-    ensures given { AnswersAs plain_given (data_table (map arg_meaning args.now)) result }
-    ensures live { IfOk result (λ g. IsNew g.value) }
-    ensures own { IfErr result IsOwn }
-{
-    Ok(quiet(Value::New(data_table(alloc, args)?)))
 }
 
 /// What `fread` gives: the table of the file that a text literal names.
@@ -335,7 +307,10 @@ fn copy_of<'a, F: Files, L: Ledger>(
 {
     let given = value(alloc, e, heap, files, steps)?;
     let table = copied(alloc, wanted_table(alloc, &given.value, heap)?, steps)?;
-    Ok(quiet(Value::New(table)))
+    Ok(Given {
+        value: Value::New(table),
+        warns: given.warns,
+    })
 }
 
 /// The name of a file, which is a text literal; anything else is E19 with `file`.

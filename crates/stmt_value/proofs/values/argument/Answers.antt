@@ -1,4 +1,4 @@
-use Rattle.std.proofs.Common.{◌≡◌, ◌∙◌, sym}
+use Rattle.std.proofs.Common.{◌∙◌, sym}
 use Rattle.session_model.specs.Meaning.{meaning}
 use Rattle.stmt_value.proofs.Arguments.{found, not_found, argument_missing}
 use Rattle.stmt_value.proofs.values.argument.Goals as goal
