@@ -27,10 +27,12 @@ use std::test::Fail;
 pub type Row = (&'static str, &'static str, &'static str);
 
 /// The statements before those of a row about tables: two lines.
-const TABLE: &str = "D <- data.table(a = c(5L, NA, -7L), b = c(TRUE, NA, FALSE), s = c(\"x\", NA, \"y\"))\nx <- c(2L, 3L)\n";
+const TABLE: &str =
+    "D <- data.table(a = c(5L, NA, -7L), b = c(TRUE, NA, FALSE), s = c(\"x\", NA, \"y\"))\nx <- c(2L, 3L)\n";
 
 /// The statements before those of a row about vectors: seven lines.
-const VECTORS: &str = "D <- data.table(a = c(5L, NA, -7L), b = c(TRUE, NA, FALSE), s = c(\"x\", NA, \"y\"))\na <- D[, a]\nb <- D[, b]\ns <- D[, s]\ne <- D[0L, a]\nf <- D[0L, b]\ng <- D[0L, s]\n";
+const VECTORS: &str =
+    "D <- data.table(a = c(5L, NA, -7L), b = c(TRUE, NA, FALSE), s = c(\"x\", NA, \"y\"))\na <- D[, a]\nb <- D[, b]\ns <- D[, s]\ne <- D[0L, a]\nf <- D[0L, b]\ng <- D[0L, s]\n";
 
 /// A session over an empty folder in memory.
 #[derive(Drop)]
@@ -51,12 +53,7 @@ fn new_place(alloc: Global) -> Place {
 }
 
 /// Runs one script in a session of its own.
-fn run_text<L: Ledger, R: Abort>(
-    rt: &R,
-    alloc: Global,
-    text: &str,
-    steps: &mut Steps<L>,
-) -> Place {
+fn run_text<L: Ledger, R: Abort>(rt: &R, alloc: Global, text: &str, steps: &mut Steps<L>) -> Place {
     let mut place = new_place(alloc);
     let bytes = text.as_bytes();
     assert!(rt; bytes.len() <= 1_048_576);
@@ -133,7 +130,8 @@ fn lives<L: Ledger, R: Abort>(
     Ok(seen)
 }
 
-const NAMES: &str = "D <- data.table(a = 1:2)\nE <- D[]\nF <- D[,][]\nrm(D)\nG <- E[TRUE]\nG <- E[, .(a)]\nx <- E[, a]\nE\n";
+const NAMES: &str =
+    "D <- data.table(a = 1:2)\nE <- D[]\nF <- D[,][]\nrm(D)\nG <- E[TRUE]\nG <- E[, .(a)]\nx <- E[, a]\nE\n";
 
 /// An empty bracket gives one more name of the same table; any other bracket a table of its own, or
 /// a vector.
