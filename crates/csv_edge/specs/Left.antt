@@ -1,7 +1,7 @@
 -- What a reader of a text has left.
---   unread rdr    the bytes that are not read
---   left rdr      the records that are not read
---   IsOpen rdr    the reader reads plain records with csv's defaults, and stands between two of them
+--   unread reader    the bytes that are not read
+--   left reader      the records that are not read
+--   IsOpen reader    the reader reads plain records with csv's defaults, and stands between two of them
 use Rattle.std.specs.Prelude.{◌≡◌, ◌+◌, ℕ, Bool, false, List, [], length, Option, Some, IsSome, unwrap_or}
 use Rattle.std.specs.Borrow.{Bor}
 use Rattle.csv.specs.Machine.{ends_at_end}
@@ -12,17 +12,17 @@ use Rattle.run_model.specs.Csv.{Record}
 
 -- the bytes that are not read, if the reader has not failed
 abbrev pub unread : Reader (Bor (List ℕ)) → Option (List ℕ)
-unread rdr = source_of (λ text. Some text.now) rdr
+unread reader = source_of (λ text. Some text.now) reader
 
 -- the records that are not read
 abbrev pub left : Reader (Bor (List ℕ)) → List Record
-left rdr =
-    records_from default_config (length (unwrap_or (unread rdr) []) + 1) (reader_state rdr) (unwrap_or (unread rdr) [])
+left reader =
+    records_from default_config (length (unwrap_or (unread reader) []) + 1) (reader_state reader) (unwrap_or (unread reader) [])
 
 -- the next read is of one record with csv's defaults, from a place between two records
-pub record IsOpen (rdr : Reader (Bor (List ℕ))) : Type 0 where
-  pub plain : reader_trim rdr ≡ trim.None
-  pub ready : Ready rdr
-  pub config : reader_config rdr ≡ default_config
-  pub known : IsSome (unread rdr)
-  pub between : ends_at_end (reader_state rdr) ≡ false
+pub record IsOpen (reader : Reader (Bor (List ℕ))) : Type 0 where
+  pub plain : reader_trim reader ≡ trim.None
+  pub ready : Ready reader
+  pub config : reader_config reader ≡ default_config
+  pub known : IsSome (unread reader)
+  pub between : ends_at_end (reader_state reader) ≡ false

@@ -15,17 +15,17 @@ use std::alloc::{AllocError, Global};
 /// these records, in their order.
 pub(crate) fn gather_columns(
     alloc: Global,
-    rdr: &mut Reader<&[u8]>,
+    reader: &mut Reader<&[u8]>,
     width: usize,
 ) -> Result<Vec<StringRecord>, CsvFail>
-    requires { IsOpen rdr.old }
-    ensures right { OnOk result (rows_fault width 0 (left rdr.old) ≡ None) }
+    requires { IsOpen reader.old }
+    ensures right { OnOk result (rows_fault width 0 (left reader.old) ≡ None) }
     ensures count { IfOk result (λ columns. length columns.items ≡ width) }
-    ensures fields { IfOk result (λ columns. Gathered columns.items (left rdr.old)) }
-    ensures refused { IfErr result (λ e. Tells e (rows_fault width 0 (left rdr.old))) }
+    ensures fields { IfOk result (λ columns. Gathered columns.items (left reader.old)) }
+    ensures refused { IfErr result (λ e. Tells e (rows_fault width 0 (left reader.old))) }
 {
     let mut columns = empty_columns(alloc, width)?;
-    read_rows(alloc, rdr, &mut columns)?;
+    read_rows(alloc, reader, &mut columns)?;
     Ok(columns)
 }
 
@@ -69,17 +69,17 @@ fn push_row(columns: &mut [StringRecord], row: &StringRecord) -> Result<(), Allo
 /// records, in their order. After a refusal the columns hold some of the fields.
 fn read_rows(
     alloc: Global,
-    rdr: &mut Reader<&[u8]>,
+    reader: &mut Reader<&[u8]>,
     columns: &mut [StringRecord],
 ) -> Result<(), CsvFail>
-    requires { IsOpen rdr.old }
-    ensures right { OnOk result (rows_fault (length columns.old) 0 (left rdr.old) ≡ None) }
-    ensures fields { OnOk result ((c : ℕ) (d : Row) → c < length columns.old → fields_of (slice_index_or columns.new c d) ≡ fields_of (slice_index_or columns.old c d) ++ fields_at c (left rdr.old)) }
-    ensures refused { IfErr result (λ e. Tells e (rows_fault (length columns.old) 0 (left rdr.old))) }
+    requires { IsOpen reader.old }
+    ensures right { OnOk result (rows_fault (length columns.old) 0 (left reader.old) ≡ None) }
+    ensures fields { OnOk result ((c : ℕ) (d : Row) → c < length columns.old → fields_of (slice_index_or columns.new c d) ≡ fields_of (slice_index_or columns.old c d) ++ fields_at c (left reader.old)) }
+    ensures refused { IfErr result (λ e. Tells e (rows_fault (length columns.old) 0 (left reader.old))) }
 {
     let mut raw = ByteRecord::new(alloc);
     let mut before: usize = 0;
-    while next_record(rdr, &mut raw)? {
+    while next_record(reader, &mut raw)? {
         let row = checked_row(raw, columns.len(), before)?;
         push_row(columns, &row)?;
         raw = row.into_byte_record();

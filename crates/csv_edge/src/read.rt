@@ -40,10 +40,10 @@ pub fn read_table<L: Ledger>(
     ensures refused { IfErr result (λ e. Refuses e (file.read_csv bytes.now)) }
     ensures touches { _steps.new ≡ _steps.old }
 {
-    let mut rdr = open(alloc, bytes);
+    let mut reader = open(alloc, bytes);
     let mut header = ByteRecord::new(alloc);
-    if next_record(&mut rdr, &mut header)? {
-        read_below(alloc, &mut rdr, header)
+    if next_record(&mut reader, &mut header)? {
+        read_below(alloc, &mut reader, header)
     } else {
         Ok((no_columns(alloc)?, Warns::none()))
     }
@@ -52,17 +52,17 @@ pub fn read_table<L: Ledger>(
 /// The table of a header and the records that are left below it.
 fn read_below(
     alloc: Global,
-    rdr: &mut Reader<&[u8]>,
+    reader: &mut Reader<&[u8]>,
     header: ByteRecord,
 ) -> Result<(Table, Warns), CsvFail>
-    requires open { IsOpen rdr.old }
+    requires open { IsOpen reader.old }
     requires some { 0 < length (fields_of header) }
-    requires cells { file.rows_fault (length (fields_of header)) 0 (left rdr.old) ≡ None → length (left rdr.old) * length (fields_of header) ≤ 67108864 }
-    ensures table { IfOk result (λ p. file.read_records (fields_of header ∷ left rdr.old) ≡ Ok (plain p.0, p.1)) }
-    ensures refused { IfErr result (λ e. Refuses e (file.read_records (fields_of header ∷ left rdr.old))) }
+    requires cells { file.rows_fault (length (fields_of header)) 0 (left reader.old) ≡ None → length (left reader.old) * length (fields_of header) ≤ 67108864 }
+    ensures table { IfOk result (λ p. file.read_records (fields_of header ∷ left reader.old) ≡ Ok (plain p.0, p.1)) }
+    ensures refused { IfErr result (λ e. Refuses e (file.read_records (fields_of header ∷ left reader.old))) }
 {
     let header = checked_header(header)?;
-    let columns = gather_columns(alloc, rdr, header.len())?;
+    let columns = gather_columns(alloc, reader, header.len())?;
     let frame = frame_of(alloc, columns)?;
     Ok(named_table(alloc, &header, frame)?)
 }

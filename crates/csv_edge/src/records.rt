@@ -20,12 +20,15 @@ pub(crate) fn open(alloc: Global, text: &[u8]) -> Reader<&[u8]>
 }
 
 /// Takes the next record into `row`, and tells whether there was one.
-pub(crate) fn next_record(rdr: &mut Reader<&[u8]>, row: &mut ByteRecord) -> Result<bool, AllocError>
-    requires { IsOpen rdr.old }
-    ensures open { IfOk result (λ found. found ≡ true → IsOpen rdr.new) }
-    ensures record { IfOk result (λ found. MatchBool found (left rdr.old ≡ fields_of row.new ∷ left rdr.new) (left rdr.old ≡ [])) }
+pub(crate) fn next_record(
+    reader: &mut Reader<&[u8]>,
+    row: &mut ByteRecord,
+) -> Result<bool, AllocError>
+    requires { IsOpen reader.old }
+    ensures open { IfOk result (λ found. found ≡ true → IsOpen reader.new) }
+    ensures record { IfOk result (λ found. MatchBool found (left reader.old ≡ fields_of row.new ∷ left reader.new) (left reader.old ≡ [])) }
 {
-    match rdr.read_byte_record(row) {
+    match reader.read_byte_record(row) {
         Ok(found) => Ok(found),
         Err(_) => Err(AllocError),
     }

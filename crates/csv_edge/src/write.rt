@@ -10,7 +10,7 @@ ghost use Rattle.na_vector.specs.Frame.{vectors_of};
 ghost use Rattle.run_model.specs.Csv.{written_csv};
 ghost use Rattle.run_model.specs.CsvCells as file;
 
-use crate::writer::{into_text, write_record, writer};
+use crate::writer::{into_text, new_writer, write_record};
 use cell_text::truth_text;
 use csv::{ByteRecord, Writer};
 use dt_base::{CellRef, ColName, Steps};
@@ -41,46 +41,46 @@ pub fn write_table<L: Ledger>(
     if t.names().is_empty() {
         return Ok(());
     }
-    let mut wtr = writer(alloc);
-    write_names(alloc, &mut wtr, t.names())?;
-    write_rows(alloc, &mut wtr, t.frame(), steps)?;
-    let text = into_text(wtr)?;
+    let mut writer = new_writer(alloc);
+    write_names(alloc, &mut writer, t.names())?;
+    write_rows(alloc, &mut writer, t.frame(), steps)?;
+    let text = into_text(writer)?;
     out.extend_from_slice(&text)
 }
 
 /// Writes the record of the names.
 fn write_names(
     alloc: Global,
-    wtr: &mut Writer<Vec<u8>>,
+    writer: &mut Writer<Vec<u8>>,
     names: &[ColName],
 ) -> Result<(), AllocError>
-    requires { IsIdle wtr.old }
-    ensures idle { OnOk result (IsIdle wtr.new) }
-    ensures text { OnOk result (written wtr.new ≡ written wtr.old ++ row_text default_writer names.now) }
+    requires { IsIdle writer.old }
+    ensures idle { OnOk result (IsIdle writer.new) }
+    ensures text { OnOk result (written writer.new ≡ written writer.old ++ row_text default_writer names.now) }
 {
     let mut row = ByteRecord::new(alloc);
     for name in names {
         row.push_field(name.as_str().as_bytes())?;
     }
-    write_record(wtr, &row)
+    write_record(writer, &row)
 }
 
 /// Writes a record for each row. It touches each cell once.
 fn write_rows<L: Ledger>(
     alloc: Global,
-    wtr: &mut Writer<Vec<u8>>,
+    writer: &mut Writer<Vec<u8>>,
     frame: &Frame,
     steps: &mut Steps<L>,
 ) -> Result<(), AllocError>
-    requires { IsIdle wtr.old }
-    ensures idle { OnOk result (IsIdle wtr.new) }
-    ensures text { OnOk result (written wtr.new ≡ written wtr.old ++ concat (map (row_text default_writer) (map (map file.cell_text) (rows_of frame.now.rows (vectors_of frame.now.columns))))) }
+    requires { IsIdle writer.old }
+    ensures idle { OnOk result (IsIdle writer.new) }
+    ensures text { OnOk result (written writer.new ≡ written writer.old ++ concat (map (row_text default_writer) (map (map file.cell_text) (rows_of frame.now.rows (vectors_of frame.now.columns))))) }
     ensures touches { OnOk result (steps.new ≡ steps.old + frame.now.rows * length frame.now.columns) }
 {
     let mut row = ByteRecord::new(alloc);
     for r in 0..frame.rows() {
         take_row(frame, r, &mut row, steps)?;
-        write_record(wtr, &row)?;
+        write_record(writer, &row)?;
     }
     Ok(())
 }

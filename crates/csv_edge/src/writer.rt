@@ -7,7 +7,7 @@ use csv::{ByteRecord, Writer, WriterBuilder};
 use std::alloc::{AllocError, Global};
 
 /// A writer into memory with csv's defaults.
-pub(crate) fn writer(alloc: Global) -> Writer<Vec<u8>>
+pub(crate) fn new_writer(alloc: Global) -> Writer<Vec<u8>>
     ensures idle { IsIdle result }
     ensures empty { written result ≡ [] }
 {
@@ -15,23 +15,23 @@ pub(crate) fn writer(alloc: Global) -> Writer<Vec<u8>>
 }
 
 /// Writes one record.
-pub(crate) fn write_record(wtr: &mut Writer<Vec<u8>>, row: &ByteRecord) -> Result<(), AllocError>
-    requires { IsIdle wtr.old }
-    ensures idle { OnOk result (IsIdle wtr.new) }
-    ensures text { OnOk result (written wtr.new ≡ written wtr.old ++ row_text default_writer (fields_of row.now)) }
+pub(crate) fn write_record(writer: &mut Writer<Vec<u8>>, row: &ByteRecord) -> Result<(), AllocError>
+    requires { IsIdle writer.old }
+    ensures idle { OnOk result (IsIdle writer.new) }
+    ensures text { OnOk result (written writer.new ≡ written writer.old ++ row_text default_writer (fields_of row.now)) }
 {
-    match wtr.write_byte_record(row) {
+    match writer.write_byte_record(row) {
         Ok(()) => Ok(()),
         Err(_) => Err(AllocError),
     }
 }
 
 /// All bytes that were written.
-pub(crate) fn into_text(wtr: Writer<Vec<u8>>) -> Result<Vec<u8>, AllocError>
-    requires { IsIdle wtr }
-    ensures { IfOk result (λ text. text.items ≡ written wtr) }
+pub(crate) fn into_text(writer: Writer<Vec<u8>>) -> Result<Vec<u8>, AllocError>
+    requires { IsIdle writer }
+    ensures { IfOk result (λ text. text.items ≡ written writer) }
 {
-    match wtr.into_inner() {
+    match writer.into_inner() {
         Ok(text) => Ok(text),
         Err(_) => Err(AllocError),
     }

@@ -1,4 +1,3 @@
 mod CsvExamples
-mod FirstPathExamples
 mod MessageExamples
 mod PrintedExamples

@@ -4,10 +4,8 @@ pub mod CsvCells
 pub mod CsvNames
 pub mod First
 pub mod FirstFault
-pub mod FirstPath
 pub mod Grammar
 pub mod GrammarTrees
-pub mod IntegerFile
 pub mod Messages
 pub mod Misplaced
 pub mod Places

@@ -15,8 +15,8 @@ pub returns-clause-fields : goal.returns-clause-fields
 returns-clause-fields c =
     let new = c.read_rows.new.columns in
     let count : length new ≡ c.in_ok-columns.columns.len = c.read_rows.auto.columns ∙ c.deref_mut.ensures.len in
-    let fields : Gathered new (left c.args.rdr.now) =
-    gathered c.deref_mut.result.now new (left c.args.rdr.now) c.read_rows.auto.columns
+    let fields : Gathered new (left c.args.reader.now) =
+    gathered c.deref_mut.result.now new (left c.args.reader.now) c.read_rows.auto.columns
     (λ k d h. rw c.deref_mut.ensures.value (c.in_ok-columns.ensures.empty k d (omega (arith, c.deref_mut.ensures.len, c.in_ok-columns.ensures.count))))
     c.in_ok-read_rows.ensures.fields in
     rw (written_back new c.in_ok-columns.columns.items c.in_ok-columns.columns.len count) fields

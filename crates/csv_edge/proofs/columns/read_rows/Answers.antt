@@ -9,8 +9,8 @@ pub loop-raw-preserved : goal.loop-raw-preserved
 loop-raw-preserved c =
     let rest = rw c.if-branch.true at c.in_ok-next_record.ensures.record in
     let row = fields_of c.next_record.new.row in
-    let after = left c.next_record.new.rdr in
-    let before = left c.loop-raw.rdr in (
+    let after = left c.next_record.new.reader in
+    let before = left c.loop-raw.reader in (
       c.in_ok-next_record.ensures.open c.if-branch.true,
       rows_fault_next (length c.args.columns.now) (length c.loop-raw.columns) c.loop-raw.before row after before rest c.loop-raw.auto.columns c.in_ok-row.ensures.right ∙ c.loop-raw.invariant.1,
       (λ k d h. fields_next (fields_of (get_or c.loop-raw.columns k d)) (fields_of (get_or c.push_row.new.columns k d)) k row (fields_of c.in_ok-row.row) after before

@@ -7,12 +7,12 @@ use Rattle.csv_edge.proofs.columns.read_rows.Given as goal
 -- what is left has the fault that all have, and the columns gain the fields of what is left
 abbrev pub invariant-loop-raw : goal.invariant-loop-raw
 invariant-loop-raw l =
-    IsOpen l.rdr
-    × (rows_fault (length l.fn.columns) l.before (left l.rdr) ≡ rows_fault (length l.fn.columns) 0 (left l.fn.rdr))
+    IsOpen l.reader
+    × (rows_fault (length l.fn.columns) l.before (left l.reader) ≡ rows_fault (length l.fn.columns) 0 (left l.fn.reader))
     × ((c : ℕ) (d : Row) → c < length l.fn.columns
-    → fields_of (get_or l.columns c d) ++ fields_at c (left l.rdr) ≡ fields_of (get_or l.fn.columns c d) ++ fields_at c (left l.fn.rdr))
+    → fields_of (get_or l.columns c d) ++ fields_at c (left l.reader) ≡ fields_of (get_or l.fn.columns c d) ++ fields_at c (left l.fn.reader))
     × (l.before ≤ 16777216)
 
 -- fewer records are left each time
 abbrev pub decreases-loop-raw : goal.decreases-loop-raw
-decreases-loop-raw l = length (left l.rdr)
+decreases-loop-raw l = length (left l.reader)

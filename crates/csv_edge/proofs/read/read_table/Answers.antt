@@ -11,11 +11,11 @@ pub read_below-requires-clause-some : goal.read_below-requires-clause-some
 read_below-requires-clause-some g c =
     let first = rw c.if-branch.true at c.in_ok-next_record.ensures.record in
     header_some default_config (length (strip_bom c.args.bytes.now) + 1) st.StartRecord (strip_bom c.args.bytes.now)
-    (fields_of c.next_record.new.row) (left c.next_record.new.rdr) (sym c.open-rdr.ensures.records ∙ first)
+    (fields_of c.next_record.new.row) (left c.next_record.new.reader) (sym c.open-reader.ensures.records ∙ first)
 
 -- each cell takes a byte
 pub read_below-requires-clause-cells : goal.read_below-requires-clause-cells
 read_below-requires-clause-cells g c = λ right.
     let first = rw c.if-branch.true at c.in_ok-next_record.ensures.record in
-    let within = cells_within c.args.bytes.now (fields_of c.next_record.new.row) (left c.next_record.new.rdr) (sym c.open-rdr.ensures.records ∙ first) right in
+    let within = cells_within c.args.bytes.now (fields_of c.next_record.new.row) (left c.next_record.new.reader) (sym c.open-reader.ensures.records ∙ first) right in
     omega (arith, within, c.requires)

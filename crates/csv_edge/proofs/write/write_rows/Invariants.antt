@@ -8,7 +8,7 @@ use Rattle.csv_edge.proofs.write.write_rows.Given as goal
 -- what is written and the texts of the rows that are left are the texts of all rows
 abbrev pub invariant-loop-r : goal.invariant-loop-r
 invariant-loop-r g l =
-    IsIdle l.wtr
-    × (written l.wtr ++ rows_text (vectors_of l.frame.columns) (range_with_len l.r (l.frame.rows - l.r))
-    ≡ written l.fn.wtr ++ rows_text (vectors_of l.frame.columns) (range_with_len 0 l.frame.rows))
+    IsIdle l.writer
+    × (written l.writer ++ rows_text (vectors_of l.frame.columns) (range_with_len l.r (l.frame.rows - l.r))
+    ≡ written l.fn.writer ++ rows_text (vectors_of l.frame.columns) (range_with_len 0 l.frame.rows))
     × (l.steps ≡ l.fn.steps + l.r * length l.frame.columns)
