@@ -46,27 +46,27 @@ meaning-Call name args = search (rules, the_lemmas)
 pub sign_gives : (e : Expr) (w : Scene) → ((x : Expr) × e ≡ Minus x) ⊎ (((x : Expr) × e ≡ Not x) ⊎ ((x : Expr) × (rest : List Tail) × e ≡ Chain x rest)) → GivesVector (meaning e) w
 sign_gives e w h =
     elim h [
-      inl p ↦ of_meaning e (Minus p.0) (expr_step (Expr-F.Minus (meaning p.0))) w p.1 (meaning-Minus p.0) refl
-    | inr q ↦ elim q [
-        inl p ↦ of_meaning e (Not p.0) (expr_step (Expr-F.Not (meaning p.0))) w p.1 (meaning-Not p.0) refl
-      | inr p ↦ of_meaning e (Chain p.0 p.1) (expr_step (Expr-F.Chain (meaning p.0) (map tail_meaning p.1))) w p.2 (meaning-Chain p.0 p.1) refl
+      | inl p ↦ of_meaning e (Minus p.0) (expr_step (Expr-F.Minus (meaning p.0))) w p.1 (meaning-Minus p.0) refl
+      | inr q ↦ elim q [
+        | inl p ↦ of_meaning e (Not p.0) (expr_step (Expr-F.Not (meaning p.0))) w p.1 (meaning-Not p.0) refl
+        | inr p ↦ of_meaning e (Chain p.0 p.1) (expr_step (Expr-F.Chain (meaning p.0) (map tail_meaning p.1))) w p.2 (meaning-Chain p.0 p.1) refl
       ]
     ]
 
 kind_gives_vector : (name : List ℕ) (f : Func) (args : List ArgMeaning) (w : Scene) (k : Kind) → (k ≡ kind.Vector) ⊎ (k ≡ kind.Description) → kind_gives k name f args w ≡ call_given name args w
 kind_gives_vector name f args w k h =
     elim h [
-      inl p ↦ ap (λ x. kind_gives x name f args w) p
-    | inr p ↦ ap (λ x. kind_gives x name f args w) p
+      | inl p ↦ ap (λ x. kind_gives x name f args w) p
+      | inr p ↦ ap (λ x. kind_gives x name f args w) p
     ]
 
 -- a call of a function that gives a vector
 pub call_gives_vector : (e : Expr) (w : Scene) (name : List ℕ) (args : List Arg) (f : Func) (k : Kind) → e ≡ Call name args → func_of name ≡ Some f → k ≡ kind_of f → (k ≡ kind.Vector) ⊎ (k ≡ kind.Description) → GivesVector (meaning e) w
 call_gives_vector e w name args f k p h i j =
     of_meaning e (Call name args) (call_of name (map arg_meaning args)) w p (meaning-Call name args)
-      (ap (λ o. call_gives name o (map arg_meaning args) w) h
-       ∙ ap (λ x. kind_gives x name f (map arg_meaning args) w) (sym i)
-       ∙ kind_gives_vector name f (map arg_meaning args) w k j)
+    (ap (λ o. call_gives name o (map arg_meaning args) w) h
+    ∙ ap (λ x. kind_gives x name f (map arg_meaning args) w) (sym i)
+    ∙ kind_gives_vector name f (map arg_meaning args) w k j)
 
 refused_as : {A B : Type 0} (view : B → A) (o p : Result A Fault) (e : EvalFail) → o ≡ p → AnswersAs view p (Err e) → Gives view o (Err (widened e))
 refused_as view o p (eval.Stop f) q h = q ∙ h

@@ -6,7 +6,8 @@
 //! - `Value` and `Given` are what it answers; `ValueFail` says why it does not.
 //!
 //! It stands on the definitions of `session_model`, on `table_heap` for names, on `csv_edge` for
-//! files and on `arg_bind` for calls. It changes no name and no table. It promises exactly the value,
+//! files, on `arg_bind` for calls, on `expr_eval` for expressions and on `dt_query` for brackets. It
+//! changes no name and no table; a bracket borrows the table before it. It promises exactly the value,
 //! the warnings or the first fault of the definition `meaning`, where files tell what they hold; and
 //! that each answer that blames a file comes only where the files counted it.
 #![tactic(auto)]

@@ -14,10 +14,10 @@ ghost use Rattle.stmt_value.specs.Answers.{Gives, Blames};
 ghost use Rattle.stmt_value.specs.Values.{plain_value, plain_given, scene, IsValueIn};
 ghost use Rattle.table_heap.specs.State.{state_of};
 
+use crate::chains::{called, chained};
 use crate::fail::{ValueFail, refusal, unbuilt};
 use crate::files::file_table;
 use crate::forms::text_literal;
-use crate::chains::{called, chained};
 use crate::given::{Given, Value};
 use crate::vectors::{table_value, vector_value};
 use arg_bind::{EvalFail, bind, place, stop};

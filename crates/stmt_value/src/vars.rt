@@ -34,10 +34,7 @@ impl Vars for ScriptNames<'_> {
 }
 
 /// The surroundings of an expression outside brackets: the script's names alone.
-pub fn outside<'s>(
-    empty: &'s Frame,
-    names: &'s ScriptNames<'s>,
-) -> Scope<'s, ScriptNames<'s>>
+pub fn outside<'s>(empty: &'s Frame, names: &'s ScriptNames<'s>) -> Scope<'s, ScriptNames<'s>>
     requires columns { empty.now.columns ≡ [] }
     requires rows { empty.now.rows ≡ 0 }
     ensures env { env_of (λ s. vars_of (state_of s.heap.now)) result ≡ model.outside (vars_of (state_of names.now.heap.now)) }

@@ -53,6 +53,7 @@ pub fn table_value<'a, L: Ledger>(
     let empty = Frame::new(alloc);
     let scope = outside(&empty, &names);
     let answer = columns(alloc, args, &scope, steps)?;
+    // Columns give a table, so nothing stays of what was before it.
     Ok(Given {
         value: Value::Null.after(answer.outcome),
         warns: answer.warns,

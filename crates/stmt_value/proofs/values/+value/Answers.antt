@@ -24,22 +24,22 @@ value-returns-in_ok-vector_value-in-Minus-clause-told g t c told =
 pub value-returns-in_err-vector_value-in-Minus-clause-told : goal.value-returns-in_err-vector_value-in-Minus-clause-told
 value-returns-in_err-vector_value-in-Minus-clause-told g t c told =
     refused_value plain_given _ _ c.in_err-vector_value-in-Minus.field-0.0 c.from_residual-in_err-vector_value-in-Minus.result
-      (sign_gives c.args.e.now (scene (g.F.Files.held c.args.files.now) c.args.heap.now) c.in-Minus.is)
-      c.in_err-vector_value-in-Minus.ensures.given
-      c.from_residual-in_err-vector_value-in-Minus.ensures.1
+    (sign_gives c.args.e.now (scene (g.F.Files.held c.args.files.now) c.args.heap.now) c.in-Minus.is)
+    c.in_err-vector_value-in-Minus.ensures.given
+    c.from_residual-in_err-vector_value-in-Minus.ensures.1
 
 pub value-returns-in_ok-vector_value-in-Vector-clause-told : goal.value-returns-in_ok-vector_value-in-Vector-clause-told
 value-returns-in_ok-vector_value-in-Vector-clause-told g t c told =
     let h : func_of c.in-Call.name ≡ Some c.in-Some.f = ap func_of (sym c.as_str-in-Call.ensures) ∙ sym c.func_named.ensures ∙ c.in-Some.is in
     call_gives_vector c.args.e.now (scene (g.F.Files.held c.args.files.now) c.args.heap.now)
-      c.in-Call.name c.in-Call.args c.in-Some.f c.kind_of.result c.in-Call.is h c.kind_of.ensures c.in-Vector.is
+    c.in-Call.name c.in-Call.args c.in-Some.f c.kind_of.result c.in-Call.is h c.kind_of.ensures c.in-Vector.is
     ∙ c.in_ok-vector_value-in-Vector.ensures.given
 
 pub value-returns-in_err-vector_value-in-Vector-clause-told : goal.value-returns-in_err-vector_value-in-Vector-clause-told
 value-returns-in_err-vector_value-in-Vector-clause-told g t c told =
     let h : func_of c.in-Call.name ≡ Some c.in-Some.f = ap func_of (sym c.as_str-in-Call.ensures) ∙ sym c.func_named.ensures ∙ c.in-Some.is in
     refused_value plain_given _ _ c.in_err-vector_value-in-Vector.field-0.0 c.from_residual-in_err-vector_value-in-Vector.result
-      (call_gives_vector c.args.e.now (scene (g.F.Files.held c.args.files.now) c.args.heap.now)
-        c.in-Call.name c.in-Call.args c.in-Some.f c.kind_of.result c.in-Call.is h c.kind_of.ensures c.in-Vector.is)
-      c.in_err-vector_value-in-Vector.ensures.given
-      c.from_residual-in_err-vector_value-in-Vector.ensures.1
+    (call_gives_vector c.args.e.now (scene (g.F.Files.held c.args.files.now) c.args.heap.now)
+    c.in-Call.name c.in-Call.args c.in-Some.f c.kind_of.result c.in-Call.is h c.kind_of.ensures c.in-Vector.is)
+    c.in_err-vector_value-in-Vector.ensures.given
+    c.from_residual-in_err-vector_value-in-Vector.ensures.1
