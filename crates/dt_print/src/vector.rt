@@ -9,12 +9,9 @@ use crate::cells::push_vector_byte;
 use cell_text::{push_integer, truth_text};
 use dt_base::limits::NA_WORD;
 use dt_base::{ColType, Steps, Text};
-use na_vector::Column;
+use na_vector::{Column, NA_LGL};
 use std::alloc::{AllocError, Global};
 use std::sync::ledger::Ledger;
-
-/// The word of a logical column that stands for NA.
-const NA_LOGICAL: u8 = 2;
 
 fn push_int(out: &mut Vec<u8>, word: i64) -> Result<(), AllocError>
     ensures { OnOk result (out.new.items ≡ out.old.items ++ int_part word) }
@@ -32,7 +29,7 @@ fn push_lgl(out: &mut Vec<u8>, word: u8) -> Result<(), AllocError>
     ensures { OnOk result (out.new.items ≡ out.old.items ++ lgl_part word) }
 {
     out.push(b' ')?;
-    if word == NA_LOGICAL {
+    if word == NA_LGL {
         out.extend_from_slice(b"NA")
     } else {
         out.extend_from_slice(truth_text(word == 1).as_bytes())

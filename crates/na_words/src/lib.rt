@@ -15,4 +15,5 @@ mod convert;
 mod words;
 
 pub use convert::{Bring, Change, append, append_words, brought_words, coerce};
-pub use words::{NA_LGL, Number, Target, Word, Words, words_of};
+pub use na_vector::NA_LGL;
+pub use words::{Number, Target, Word, Words, words_of};

@@ -12,12 +12,9 @@ use cell_text::{integer_of, truth_of, truth_text};
 use dt_base::limits::NA_WORD;
 use dt_base::{ColType, Steps, Text};
 use itoa::Buffer;
-use na_vector::Column;
+use na_vector::{Column, NA_LGL};
 use std::alloc::{AllocError, Global};
 use std::sync::ledger::Ledger;
-
-/// The word of NA in a column of logicals; FALSE is 0 and TRUE is 1.
-pub const NA_LGL: u8 = 2;
 
 /// The words of a column.
 #[derive(Clone, Copy)]
