@@ -1,7 +1,7 @@
 //! What expressions give, by tables of examples that were written by hand.
 //!
-//! - `surroundings`: a bracket over three rows, one of a group, and a line outside brackets, with one
-//!   vector and one table among the script's names.
+//! - `surroundings`: a bracket over three rows, one of a group, and a line outside brackets, with five
+//!   vectors, three of them empty, and two tables among the script's names.
 //! - `tests`: each row is an expression as a script writes it, and what it prints: its value and its
 //!   warnings, or its fault.
 //!
@@ -9,7 +9,6 @@
 //! so that `expr_eval` is proved once.
 #![tactic(auto)]
 
-#[cfg(test)]
-mod surroundings;
+pub mod surroundings;
 #[cfg(test)]
 mod tests;

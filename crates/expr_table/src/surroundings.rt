@@ -7,11 +7,16 @@ use expr_eval::{Scope, Vars};
 use na_vector::{Column, Frame};
 use std::alloc::{AllocError, Global};
 
-/// The script's names: the vector `u` and the table `D`.
+/// The script's names: the vectors `u`, `t`, `l0`, `i0` and `t0`, and the tables `D` and `E`.
 #[derive(Drop)]
 pub struct Names {
-    pub u: Column,
-    pub d: Table,
+    pub numbers: Column,
+    pub texts: Column,
+    pub no_truths: Column,
+    pub no_numbers: Column,
+    pub no_texts: Column,
+    pub table: Table,
+    pub empty: Table,
 }
 
 impl Vars for Names {
@@ -20,11 +25,22 @@ impl Vars for Names {
     ghost bound = { bound_in };
 
     fn vector(&self, name: &str) -> Option<&Column> {
-        if name == "u" { Some(&self.u) } else { None }
+        match name {
+            "u" => Some(&self.numbers),
+            "t" => Some(&self.texts),
+            "l0" => Some(&self.no_truths),
+            "i0" => Some(&self.no_numbers),
+            "t0" => Some(&self.no_texts),
+            _ => None,
+        }
     }
 
     fn table(&self, name: &str) -> Option<&Table> {
-        if name == "D" { Some(&self.d) } else { None }
+        match name {
+            "D" => Some(&self.table),
+            "E" => Some(&self.empty),
+            _ => None,
+        }
     }
 }
 
@@ -83,11 +99,38 @@ fn table(alloc: Global) -> Result<Table, MakeFail> {
     Table::make(alloc, names, frame)
 }
 
-/// The vector u of 7 and 8, and the table D.
+/// A table without columns.
+fn empty_table(alloc: Global) -> Result<Table, MakeFail> {
+    Table::make(alloc, Vec::new(alloc), Frame::new(alloc))
+}
+
+/// 7 and 8.
+fn two_numbers(alloc: Global) -> Result<Column, AllocError> {
+    Ok(Column::from_ints(vec![in alloc; 7i64, 8]?))
+}
+
+/// `b`, NA and `a`.
+fn three_texts(alloc: Global) -> Result<Column, AllocError> {
+    let b = Some(Text::make(alloc, "b")?);
+    let a = Some(Text::make(alloc, "a")?);
+    Column::from_texts(vec![in alloc; b, None, a].map_err(AllocError::from)?)
+}
+
 fn script(alloc: Global) -> Result<Names, MakeFail> {
-    let u = Column::from_ints(vec![in alloc; 7i64, 8].map_err(AllocError::from)?);
-    let d = table(alloc)?;
-    Ok(Names { u, d })
+    let numbers = two_numbers(alloc)?;
+    let texts = three_texts(alloc)?;
+    let no_texts = Column::from_texts(Vec::new(alloc))?;
+    let table = table(alloc)?;
+    let empty = empty_table(alloc)?;
+    Ok(Names {
+        numbers,
+        texts,
+        no_truths: Column::from_lgls(Vec::new(alloc)),
+        no_numbers: Column::from_ints(Vec::new(alloc)),
+        no_texts,
+        table,
+        empty,
+    })
 }
 
 /// The parts of the bracket, its shared row with the column `g` of 4.
