@@ -9,8 +9,8 @@ use Rattle.dt_model.specs.State.{State}
 use Rattle.table_heap.specs.Alike.{Alike}
 use Rattle.table_heap.specs.Seen.{HeapSeen, heap_code}
 use Rattle.table_heap.specs.State as heap
-use Rattle.dt_session.specs.declared.session.Options.{Options}
-use Rattle.dt_session.specs.contracts.session.Options as options
+use Rattle.dt_query.specs.declared.answer.Options.{Options}
+use Rattle.dt_query.specs.contracts.answer.Options as options
 
 -- names and tables, and the two options
 pub record SessionSeen : Type 0 where

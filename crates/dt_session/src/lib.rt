@@ -26,6 +26,7 @@ mod session;
 #[cfg(test)]
 mod tests;
 
+pub use dt_query::Options;
 pub use fail::{ExecFail, RunFail};
 pub use run::run_script;
-pub use session::{Options, Session, alike};
+pub use session::{Session, alike};

@@ -18,6 +18,7 @@ use crate::finish::finish;
 use crate::puts::put_all;
 use dt_base::Steps;
 use dt_print::warn_lines;
+use dt_query::Options;
 use dt_script::Stmt;
 use dt_world::{Files, Sink};
 use std::alloc::Global;
@@ -26,15 +27,6 @@ use std::sync::ledger::Ledger;
 use stmt_effect::{Effect, compute};
 use stmt_value::ValueFail;
 use table_heap::Heap;
-
-/// The two options of a session.
-#[derive(Clone, Copy, Debug, PartialEq, Eq)]
-pub struct Options {
-    /// Whether a look-up by `==` or `%in%` adds an index.
-    pub auto_index: bool,
-    /// Whether a look-up goes through an index.
-    pub use_index: bool,
-}
 
 /// Names with their tables and vectors, and the options. Contracts see both; `state_of` reads the
 /// names and tables as a state.

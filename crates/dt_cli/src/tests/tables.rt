@@ -125,11 +125,11 @@ pub const STOPPED: [(&str, &str, &str, &str); 12] = [
 /// A statement that stops a script of its own, and the argument that it is refused for.
 pub const BAD_ARGUMENTS: [(&str, &str); 23] = [
     ("data.table()", "data.table"),
-    ("nosuch + 1L", "unbuilt"),
-    ("print(nosuch[1L])", "unbuilt"),
+    ("cumsum(nosuch)", "unbuilt"),
+    ("print(nosuch[order(a)])", "unbuilt"),
     ("x <- D[, a := 1L]", "unbuilt"),
-    ("copy(1L)", "unbuilt"),
-    ("data.table((1L))", "unbuilt"),
+    ("copy(1L)", "table"),
+    ("data.table(nosuch, key(D))", "unbuilt"),
     ("fread()", "file"),
     ("fread(1L)", "file"),
     ("fread(NULL)", "file"),
@@ -150,8 +150,10 @@ pub const BAD_ARGUMENTS: [(&str, &str); 23] = [
 ];
 
 /// A statement that stops a script of its own for a name that is unknown.
-pub const UNKNOWN_NAMES: [(&str, &str); 6] = [
+pub const UNKNOWN_NAMES: [(&str, &str); 8] = [
     ("nosuch", "nosuch"),
+    ("nosuch + 1L", "nosuch"),
+    ("print(nosuch[1L])", "nosuch"),
     ("nosuch(1L)", "nosuch"),
     ("copy(y)", "y"),
     ("rm(y)", "y"),

@@ -1,0 +1,5 @@
+pub mod Bindings
+pub mod Plain
+pub mod TextFacts
+pub mod Values
+pub mod Written

@@ -1,0 +1,230 @@
+ghost use Rattle.std.specs.Prelude.{◌≡◌, ◌≤◌, IfOk, IfErr, All, length};
+ghost use Rattle.arg_bind.specs.Answers.{AnswersAs, IsOwn};
+ghost use Rattle.dt_model.specs.Vector.{IsWithin};
+ghost use Rattle.dt_query.specs.Chosen.{chosen_of, AreRows};
+ghost use Rattle.dt_table.specs.Plain.{plain};
+ghost use Rattle.expr_eval.specs.Scope.{env_of, IsScope};
+ghost use Rattle.func_table.specs.Special.{special_of};
+ghost use Rattle.na_vector.specs.Frame.{rows_with};
+ghost use Rattle.session_model.specs.Meaning.{meaning};
+ghost use Rattle.session_model.specs.Query.{checked_value, i_variable, i_name, i_not_variable, i_not_name, i_by_form, i_value, of_columns, rows_by, rows_of_i};
+ghost use Rattle.vec_funcs.specs.Valued.{valued_of};
+ghost use Rattle.vector_model.specs.Then.{then_do};
+
+use crate::forms::{bare_name, negated_name};
+use crate::scopes::whole_scope;
+use arg_bind::{EvalFail, stop};
+use dt_base::{Code, Steps, Warns};
+use dt_table::Table;
+use dt_tree::Expr;
+use expr_eval::{Scope, Vars, check, eval};
+use func_table::special_named;
+use na_vector::{Column, Frame};
+use row_choice::{all_rows, chosen_rows};
+use std::alloc::Global;
+use std::sync::ledger::Ledger;
+use vec_funcs::Valued;
+
+/// The rows that an i chooses, each by its place in the table, or none for a row of NA; and the
+/// warnings of i.
+#[derive(Debug, Drop)]
+pub struct Chosen {
+    pub positions: Vec<Option<u32>>,
+    pub warns: Warns,
+}
+
+/// The type first, then the value.
+fn checked_value<V: Vars, L: Ledger>(
+    alloc: Global,
+    e: &Expr,
+    s: &Scope<'_, V>,
+    steps: &mut Steps<L>,
+) -> Result<Valued, EvalFail>
+    requires { IsScope s.now }
+    ensures answer { AnswersAs valued_of (checked_value (meaning e.now) (env_of V.bound s.now)) result }
+    ensures own { IfErr result IsOwn }
+{
+    check(alloc, e, s)?;
+    eval(alloc, e, s, steps)
+}
+
+/// These rows; of a table without columns there are none.
+fn of_columns(alloc: Global, width: usize, positions: Vec<Option<u32>>) -> Vec<Option<u32>>
+    ensures items { result.items ≡ of_columns width positions.items }
+    ensures none { rows_with width (length result.items) ≡ length result.items }
+{
+    if width == 0 {
+        return Vec::new(alloc);
+    }
+    positions
+}
+
+/// The rows that a value of i chooses.
+#[tactic(auto, using(crate::proofs::Plain::counts))]
+fn rows_by<L: Ledger>(
+    alloc: Global,
+    x: &Table,
+    column: &Column,
+    warns: Warns,
+    steps: &mut Steps<L>,
+) -> Result<Chosen, EvalFail>
+    ensures answer { AnswersAs chosen_of (rows_by (plain x.now) (record { vector = column.now.vector; warns = warns })) result }
+    ensures rows { IfOk result (AreRows x.now) }
+    ensures own { IfErr result IsOwn }
+{
+    let frame = x.frame();
+    let positions = chosen_rows(alloc, column, frame.rows(), steps)?;
+    Ok(Chosen {
+        positions: of_columns(alloc, frame.width(), positions),
+        warns,
+    })
+}
+
+/// The rows that the value of an expression chooses.
+fn valued_rows<V: Vars, L: Ledger>(
+    alloc: Global,
+    e: &Expr,
+    x: &Table,
+    s: &Scope<'_, V>,
+    steps: &mut Steps<L>,
+) -> Result<Chosen, EvalFail>
+    requires { IsScope s.now }
+    ensures answer { AnswersAs chosen_of (then_do (checked_value (meaning e.now) (env_of V.bound s.now)) (rows_by (plain x.now))) result }
+    ensures rows { IfOk result (AreRows x.now) }
+    ensures own { IfErr result IsOwn }
+{
+    let value = checked_value(alloc, e, s, steps)?;
+    rows_by(alloc, x, &value.column, value.warns, steps)
+}
+
+/// The rows that the vector of a script's name chooses. The name of a table is not served, and any
+/// other is E02 with it.
+#[tactic(auto, using(crate::proofs::Bindings::bindings))]
+fn variable_rows<V: Vars, L: Ledger>(
+    alloc: Global,
+    name: &str,
+    x: &Table,
+    vars: &V,
+    steps: &mut Steps<L>,
+) -> Result<Chosen, EvalFail>
+    ensures answer { AnswersAs chosen_of (then_do (i_variable name.now (V.bound vars.now name.now)) (rows_by (plain x.now))) result }
+    ensures rows { IfOk result (AreRows x.now) }
+    ensures own { IfErr result IsOwn }
+{
+    match vars.vector(name) {
+        Some(column) => rows_by(alloc, x, column, Warns::none(), steps),
+        None => match vars.table(name) {
+            Some(_) => Err(stop(alloc, Code::E19, "unbuilt")),
+            None => Err(stop(alloc, Code::E02, name)),
+        },
+    }
+}
+
+/// The rows that a bare name chooses: a special name by its value, any other as the script's.
+fn name_rows<V: Vars, L: Ledger>(
+    alloc: Global,
+    e: &Expr,
+    name: &str,
+    x: &Table,
+    s: &Scope<'_, V>,
+    steps: &mut Steps<L>,
+) -> Result<Chosen, EvalFail>
+    requires { IsScope s.now }
+    ensures answer { AnswersAs chosen_of (then_do (i_name (meaning e.now) (env_of V.bound s.now) name.now (special_of name.now)) (rows_by (plain x.now))) result }
+    ensures rows { IfOk result (AreRows x.now) }
+    ensures own { IfErr result IsOwn }
+{
+    match special_named(name) {
+        Some(_) => valued_rows(alloc, e, x, s, steps),
+        None => variable_rows(alloc, name, x, s.vars, steps),
+    }
+}
+
+/// The rows that `!` before a name chooses that is no special one. Where a table has the name it is
+/// not served.
+#[tactic(auto, using(crate::proofs::Bindings::bindings))]
+fn not_variable_rows<V: Vars, L: Ledger>(
+    alloc: Global,
+    e: &Expr,
+    name: &str,
+    x: &Table,
+    s: &Scope<'_, V>,
+    steps: &mut Steps<L>,
+) -> Result<Chosen, EvalFail>
+    requires { IsScope s.now }
+    ensures answer { AnswersAs chosen_of (then_do (i_not_variable (meaning e.now) (env_of V.bound s.now) (V.bound s.now.vars.now name.now)) (rows_by (plain x.now))) result }
+    ensures rows { IfOk result (AreRows x.now) }
+    ensures own { IfErr result IsOwn }
+{
+    match s.vars.table(name) {
+        Some(_) => Err(stop(alloc, Code::E19, "unbuilt")),
+        None => valued_rows(alloc, e, x, s, steps),
+    }
+}
+
+/// The rows that `!` before a bare name chooses.
+fn not_name_rows<V: Vars, L: Ledger>(
+    alloc: Global,
+    e: &Expr,
+    name: &str,
+    x: &Table,
+    s: &Scope<'_, V>,
+    steps: &mut Steps<L>,
+) -> Result<Chosen, EvalFail>
+    requires { IsScope s.now }
+    ensures answer { AnswersAs chosen_of (then_do (i_not_name (meaning e.now) (env_of V.bound s.now) name.now (special_of name.now)) (rows_by (plain x.now))) result }
+    ensures rows { IfOk result (AreRows x.now) }
+    ensures own { IfErr result IsOwn }
+{
+    match special_named(name) {
+        Some(_) => valued_rows(alloc, e, x, s, steps),
+        None => not_variable_rows(alloc, e, name, x, s, steps),
+    }
+}
+
+/// The rows that i chooses in this scope, by its form.
+#[tactic(auto, using(crate::proofs::Written::i_forms))]
+fn rows_in<V: Vars, L: Ledger>(
+    alloc: Global,
+    i: &Expr,
+    x: &Table,
+    s: &Scope<'_, V>,
+    steps: &mut Steps<L>,
+) -> Result<Chosen, EvalFail>
+    requires { IsScope s.now }
+    ensures answer { AnswersAs chosen_of (then_do (i_value (meaning i.now) (env_of V.bound s.now)) (rows_by (plain x.now))) result }
+    ensures rows { IfOk result (AreRows x.now) }
+    ensures own { IfErr result IsOwn }
+{
+    if let Some(name) = bare_name(i) {
+        return name_rows(alloc, i, name, x, s, steps);
+    }
+    if let Some(name) = negated_name(i) {
+        return not_name_rows(alloc, i, name, x, s, steps);
+    }
+    valued_rows(alloc, i, x, s, steps)
+}
+
+/// The rows that i chooses of a table.
+///
+/// A bare name that is no special one is looked up among the script's names alone: E02 where it is
+/// unbound. The name of a table, and `!` before one, is not served. Anything else has its type first,
+/// over all rows of the table, and then its value. Then come the faults of choosing rows by it: E05
+/// for the length of a logical, E13 for mixed signs. dtq's own rule, docs/LANGUAGE.md, section
+/// "Queries".
+pub fn rows_of_i<V: Vars, L: Ledger>(
+    alloc: Global,
+    i: &Expr,
+    x: &Table,
+    vars: &V,
+    steps: &mut Steps<L>,
+) -> Result<Chosen, EvalFail>
+    ensures answer { AnswersAs chosen_of (rows_of_i (meaning i.now) (plain x.now) (V.bound vars.now)) result }
+    ensures rows { IfOk result (AreRows x.now) }
+    ensures own { IfErr result IsOwn }
+{
+    let all = all_rows(alloc, x.frame().rows())?;
+    let none = Frame::new(alloc);
+    let s = whole_scope(x, &all, &none, vars);
+    rows_in(alloc, i, x, &s, steps)
+}
