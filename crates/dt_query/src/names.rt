@@ -178,7 +178,7 @@ fn item_name<V: Vars>(
 ///
 /// A column has the name that is written. In a bracket a bare column keeps its name, and `.N` is
 /// `N`; any other is V and its place, counted from 1. dtq's own rule, docs/LANGUAGE.md, section
-/// "Queries".
+/// "Brackets".
 pub fn item_names<V: Vars>(
     alloc: Global,
     s: &Scope<'_, V>,

@@ -231,7 +231,7 @@ fn parts_answer<V: Vars, L: Ledger>(
 /// through. What is not served is E19 with `unbuilt`. The warnings are those of i and of j.
 ///
 /// Without i, j looks at the table's own columns. With one, the chosen rows are gathered once.
-/// The manual's page data.table; the order is dtq's own, docs/LANGUAGE.md, section "Queries".
+/// The manual's page data.table; the order is dtq's own, docs/LANGUAGE.md, section "Brackets".
 pub fn run_query<V: Vars, L: Ledger>(
     alloc: Global,
     q: &Bracket,

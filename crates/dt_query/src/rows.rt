@@ -211,7 +211,7 @@ fn rows_in<V: Vars, L: Ledger>(
 /// unbound. The name of a table, and `!` before one, is not served. Anything else has its type first,
 /// over all rows of the table, and then its value. Then come the faults of choosing rows by it: E05
 /// for the length of a logical, E13 for mixed signs. dtq's own rule, docs/LANGUAGE.md, section
-/// "Queries".
+/// "Brackets".
 pub fn rows_of_i<V: Vars, L: Ledger>(
     alloc: Global,
     i: &Expr,

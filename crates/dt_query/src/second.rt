@@ -129,7 +129,7 @@ fn call_answer<V: Vars, L: Ledger>(
 /// `.( )` and `list( )` give a table, and are E19 with their word where they are empty. A text
 /// literal, and `c()` of such texts alone, give the columns of these names as a table. Any other
 /// expression gives a vector, its type first and then its value. dtq's own rule, docs/LANGUAGE.md,
-/// section "Queries".
+/// section "Brackets".
 #[tactic(auto, using(crate::proofs::TextFacts::calls))]
 pub fn answer_of<V: Vars, L: Ledger>(
     alloc: Global,

@@ -161,7 +161,7 @@ fn text_table<V: Vars, L: Ledger>(
 ///
 /// A name that is no column's is E03 with it, in their order. Then a name that stands twice is E12
 /// with it, and a table past a limit E07, E08 or E09. dtq's own rule, docs/LANGUAGE.md, section
-/// "Queries".
+/// "Brackets".
 pub fn text_columns<V: Vars, L: Ledger>(
     alloc: Global,
     names: &[ColName],

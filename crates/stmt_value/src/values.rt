@@ -105,7 +105,7 @@ fn copied<L: Ledger>(
 /// arguments. A query gives its head's value through its brackets, one after another: what stands
 /// before a bracket is a table, else E20 with its name or `[`, and E04 for NULL; an argument that a
 /// bracket does not have is E19 with its name. Anything else is a vector, whose type comes before its
-/// value. dtq's own rule, docs/LANGUAGE.md, sections "Statements" and "Queries".
+/// value. dtq's own rule, docs/LANGUAGE.md, sections "Statements" and "Brackets".
 #[cycle(value)]
 pub fn value<'a, F: Files, L: Ledger>(
     alloc: Global,

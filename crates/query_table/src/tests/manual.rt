@@ -4,7 +4,7 @@ use crate::tests::Row;
 /// Nothing stands before them.
 pub const MANUAL: [Row; 11] = [
     (
-        "rain <- data.table(station = c(1L, 1L, 2L, 2L), mm = c(612L, 655L, NA, 541L), wet = c(TRUE, TRUE, NA, FALSE))\nrain[mm > 600L]\nrain[!is.na(mm), .(years = .N, total = sum(mm))]\nrain[wet, mm][1L]",
+        "rain <- data.table(station = c(1L, 1L, 2L, 2L), mm = c(612L, 655L, NA, 541L), wet = c(TRUE, TRUE, NA, FALSE))\nrain[mm > 600L]\nrain[!is.na(mm), .(years = .N, total = sum(mm))]\nrain[(wet), mm][1L]",
         "   station  mm  wet\n1:       1 612 TRUE\n2:       1 655 TRUE\n   years total\n1:     3  1808\n",
         "Error E20 at line 4: '[' is not a table\n",
     ),

@@ -3,7 +3,7 @@ use crate::tests::Row;
 
 /// Of the table a = 5, NA, -7; b = TRUE, NA, FALSE; s = "x", NA, "y"; x is 2, 3.
 pub const ROWS: [Row; 52] = [
-    ("D[b]", "   a    b s\n1: 5 TRUE x\n", ""),
+    ("D[b]", "", "Error E02 at line 3: unknown name 'b'\n"),
     (
         "D[TRUE]",
         "    a     b    s\n1:  5  TRUE    x\n2: NA    NA <NA>\n3: -7 FALSE    y\n",
@@ -167,7 +167,7 @@ pub const ROWS: [Row; 52] = [
         "",
     ),
     (
-        "D[0L][b]",
+        "D[0L][(b)]",
         "Empty data.table (0 rows and 3 cols): a,b,s\n",
         "",
     ),
