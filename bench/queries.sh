@@ -22,23 +22,8 @@ cp read.dq query.dq
 for _ in 1 2 3 4 5 6 7 8 9 10 11 12 13 14 15 16 17 18 19 20; do printf '%s\n' "$query" >>query.dq; done
 "$top/dtq" read.dq >/dev/null
 
-# The least processor time of five runs, in milliseconds.
-least() {
-    python3 - "$@" <<'PY'
-import resource, subprocess, sys
-best = None
-for _ in range(5):
-    before = resource.getrusage(resource.RUSAGE_CHILDREN)
-    subprocess.run(sys.argv[1:], stdout=subprocess.DEVNULL, check=True)
-    after = resource.getrusage(resource.RUSAGE_CHILDREN)
-    used = after.ru_utime + after.ru_stime - before.ru_utime - before.ru_stime
-    best = used if best is None else min(best, used)
-print(f"{best * 1000:.0f}")
-PY
-}
-
-read_ms=$(least "$top/dtq" read.dq)
-query_ms=$(least "$top/dtq" query.dq)
+read_ms=$(python3 "$top/bench/least.py" "$top/dtq" read.dq)
+query_ms=$(python3 "$top/bench/least.py" "$top/dtq" query.dq)
 echo "dtq: one query $(((query_ms - read_ms) / 20)) ms, reading $read_ms ms"
 if command -v Rscript >/dev/null 2>&1; then
     Rscript -e 'suppressMessages(library(data.table)); setDTthreads(1); D <- fread("big.csv", showProgress = FALSE)

@@ -19,15 +19,5 @@ printf '' >empty.dq
 "$top/dtq" empty.dq
 
 for script in empty one_name many_names prints; do
-    python3 - "$top/dtq" "$script.dq" <<'PY'
-import resource, subprocess, sys, time
-best = None
-for _ in range(5):
-    before = resource.getrusage(resource.RUSAGE_CHILDREN)
-    subprocess.run(sys.argv[1:], stdout=subprocess.DEVNULL, check=True)
-    after = resource.getrusage(resource.RUSAGE_CHILDREN)
-    used = after.ru_utime + after.ru_stime - before.ru_utime - before.ru_stime
-    best = used if best is None else min(best, used)
-print(f"{sys.argv[2]}: {best * 1000:.0f} ms of processor time, the launcher's included")
-PY
+    echo "$script.dq: $(python3 "$top/bench/least.py" "$top/dtq" "$script.dq") ms of processor time, the launcher's included"
 done
