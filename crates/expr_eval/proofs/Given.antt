@@ -5,14 +5,14 @@ use Rattle.arg_bind.specs.declared.fail.EvalFail.{EvalFail}
 use Rattle.arg_bind.specs.declared.fail.EvalFail.TheVariants.{Stop, NoMemory}
 use Rattle.dt_base.specs.declared.fault.Fault.{Fault}
 use Rattle.expr_eval.specs.Slots.{slot_of}
+use Rattle.expr_eval.specs.declared.operands.Operand.{Operand}
 use Rattle.expr_model.specs.Functions.{value_of}
 use Rattle.expr_model.specs.Unbuilt.{unbuilt}
 use Rattle.session_model.specs.Expression.{slot_vector}
 use Rattle.func_table.specs.declared.func.Func.{Func}
 use Rattle.func_table.specs.declared.slot.Slot.{Slot}
-use Rattle.vec_funcs.specs.declared.valued.Valued.{Valued}
 
-pub more_given : (f : Func) (given : List (Slot Valued)) → 3 < length given → value_of f (map slot_vector (map slot_of given)) ≡ Err unbuilt
+pub more_given : (f : Func) (given : List (Slot Operand)) → 3 < length given → value_of f (map slot_vector (map slot_of given)) ≡ Err unbuilt
 unfolding value_of
 more_given f [] h = absurd (omega (arith, h))
 more_given f (a ∷ []) h = absurd (omega (arith, h))

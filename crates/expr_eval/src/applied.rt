@@ -6,6 +6,7 @@ ghost use Rattle.session_model.specs.Expression.{slot_vector, slot_warns, all_wa
 ghost use Rattle.dt_base.specs.Warns.{no_warns};
 ghost use Rattle.vec_funcs.specs.Valued.{valued_of};
 
+use crate::operands::Operand;
 use crate::operations::{choice_value, conversion, na_test};
 use arg_bind::{EvalFail, stop};
 use dt_base::{Code, ColType, Steps, Warns};
@@ -79,14 +80,14 @@ fn three_value<L: Ledger>(
 fn value_of_one<L: Ledger>(
     alloc: Global,
     f: Func,
-    x: &Slot<Valued>,
+    x: &Slot<Operand<'_>>,
     steps: &mut Steps<L>,
 ) -> Result<Valued, EvalFail>
     ensures answer { AnswersAs valued_of (value_of_one f (slot_vector (slot_of x.now))) result }
     ensures own { IfErr result IsOwn }
 {
     match x {
-        Slot::Given(x) => one_value(alloc, f, &x.column, steps),
+        Slot::Given(x) => one_value(alloc, f, x.column(), steps),
         Slot::Flag(_) | Slot::Absent => Err(stop(alloc, Code::E19, "unbuilt")),
     }
 }
@@ -95,16 +96,16 @@ fn value_of_one<L: Ledger>(
 fn value_of_two<L: Ledger>(
     alloc: Global,
     f: Func,
-    x: &Slot<Valued>,
-    flag: &Slot<Valued>,
+    x: &Slot<Operand<'_>>,
+    flag: &Slot<Operand<'_>>,
     steps: &mut Steps<L>,
 ) -> Result<Valued, EvalFail>
     ensures answer { AnswersAs valued_of (value_of_two f (slot_vector (slot_of x.now)) (slot_vector (slot_of flag.now))) result }
     ensures own { IfErr result IsOwn }
 {
     match (x, flag) {
-        (Slot::Given(x), Slot::Absent) => flagged_value(alloc, f, false, &x.column, steps),
-        (Slot::Given(x), Slot::Flag(b)) => flagged_value(alloc, f, *b, &x.column, steps),
+        (Slot::Given(x), Slot::Absent) => flagged_value(alloc, f, false, x.column(), steps),
+        (Slot::Given(x), Slot::Flag(b)) => flagged_value(alloc, f, *b, x.column(), steps),
         _ => Err(stop(alloc, Code::E19, "unbuilt")),
     }
 }
@@ -112,9 +113,9 @@ fn value_of_two<L: Ledger>(
 fn value_of_three<L: Ledger>(
     alloc: Global,
     f: Func,
-    test: &Slot<Valued>,
-    a: &Slot<Valued>,
-    b: &Slot<Valued>,
+    test: &Slot<Operand<'_>>,
+    a: &Slot<Operand<'_>>,
+    b: &Slot<Operand<'_>>,
     steps: &mut Steps<L>,
 ) -> Result<Valued, EvalFail>
     ensures answer { AnswersAs valued_of (value_of_three f (slot_vector (slot_of test.now)) (slot_vector (slot_of a.now)) (slot_vector (slot_of b.now))) result }
@@ -122,7 +123,7 @@ fn value_of_three<L: Ledger>(
 {
     match (test, a, b) {
         (Slot::Given(test), Slot::Given(a), Slot::Given(b)) => {
-            three_value(alloc, f, &test.column, &a.column, &b.column, steps)
+            three_value(alloc, f, test.column(), a.column(), b.column(), steps)
         }
         _ => Err(stop(alloc, Code::E19, "unbuilt")),
     }
@@ -133,7 +134,7 @@ fn value_of_three<L: Ledger>(
 fn func_value<L: Ledger>(
     alloc: Global,
     f: Func,
-    given: &[Slot<Valued>],
+    given: &[Slot<Operand<'_>>],
     steps: &mut Steps<L>,
 ) -> Result<Valued, EvalFail>
     ensures answer { AnswersAs valued_of (value_of f (map slot_vector (map slot_of given.now))) result }
@@ -148,17 +149,17 @@ fn func_value<L: Ledger>(
     }
 }
 
-fn warns_of(slot: &Slot<Valued>) -> Warns
+fn warns_of(slot: &Slot<Operand<'_>>) -> Warns
     ensures { result ≡ slot_warns (slot_of slot.now) }
 {
     match slot {
-        Slot::Given(v) => v.warns,
+        Slot::Given(v) => v.warns(),
         Slot::Flag(_) | Slot::Absent => Warns::none(),
     }
 }
 
 /// The warnings of all slots.
-fn warns_of_slots(given: &[Slot<Valued>]) -> Warns
+fn warns_of_slots(given: &[Slot<Operand<'_>>]) -> Warns
     ensures { result ≡ all_warns no_warns (map slot_of given.now) }
 {
     let mut all = Warns::none();
@@ -172,7 +173,7 @@ fn warns_of_slots(given: &[Slot<Valued>]) -> Warns
 pub fn applied<L: Ledger>(
     alloc: Global,
     f: Func,
-    given: &[Slot<Valued>],
+    given: &[Slot<Operand<'_>>],
     steps: &mut Steps<L>,
 ) -> Result<Valued, EvalFail>
     ensures answer { AnswersAs valued_of (applied f (map slot_of given.now)) result }

@@ -3,6 +3,7 @@ ghost use Rattle.arg_bind.specs.Answers.{AnswersAs, IsOwn};
 ghost use Rattle.dt_base.specs.Warns.{no_warns};
 ghost use Rattle.dt_base.specs.declared.cell.Cell.TheVariants as is;
 ghost use Rattle.expr_eval.specs.Scope.{env_of, IsScope};
+ghost use Rattle.expr_eval.specs.Slots.{operand_of};
 ghost use Rattle.session_model.specs.Expression.{quiet};
 ghost use Rattle.expr_model.specs.Surroundings.{var_vector, bracket_vector, group_vector, special_vector, name_vector, row_number, integer};
 ghost use Rattle.na_vector.specs.Words.{int_cell};
@@ -10,6 +11,7 @@ ghost use Rattle.na_words.specs.Shown.{vector_from};
 ghost use Rattle.vec_funcs.specs.Valued.{valued_of};
 
 use crate::names::{bracket_vector, var_vector};
+use crate::operands::Operand;
 use crate::{Scope, Vars};
 use arg_bind::{EvalFail, stop};
 use dt_base::limits::NA_WORD;
@@ -120,7 +122,7 @@ fn special_value<V: Vars>(
 }
 
 /// A copy of a column, without warnings.
-fn copied<L: Ledger>(
+pub fn copied<L: Ledger>(
     alloc: Global,
     column: &Column,
     steps: &mut Steps<L>,
@@ -134,49 +136,56 @@ fn copied<L: Ledger>(
     }
 }
 
-fn outside_value<V: Vars, L: Ledger>(
+fn outside_operand<'a, V: Vars>(
     alloc: Global,
-    vars: &V,
+    s: &Scope<'a, V>,
     name: &str,
-    steps: &mut Steps<L>,
-) -> Result<Valued, EvalFail>
-    ensures answer { AnswersAs valued_of (quiet (var_vector Code.E02 name.now (V.bound vars.now name.now))) result }
+) -> Result<Operand<'a>, EvalFail>
+    ensures answer { AnswersAs operand_of (quiet (var_vector Code.E02 name.now (V.bound s.now.vars.now name.now))) result }
     ensures own { IfErr result IsOwn }
 {
-    let column = var_vector(alloc, vars, Code::E02, name)?;
-    copied(alloc, column, steps)
+    Ok(Operand::Lent(var_vector(alloc, s.vars, Code::E02, name)?))
 }
 
-fn bracket_value<V: Vars, L: Ledger>(
+fn bracket_operand<'a, V: Vars>(
     alloc: Global,
-    s: &Scope<'_, V>,
+    s: &Scope<'a, V>,
     name: &str,
-    steps: &mut Steps<L>,
-) -> Result<Valued, EvalFail>
+) -> Result<Operand<'a>, EvalFail>
     requires { IsScope s.now }
-    ensures answer { AnswersAs valued_of (quiet (bracket_vector (env_of V.bound s.now) name.now)) result }
+    ensures answer { AnswersAs operand_of (quiet (bracket_vector (env_of V.bound s.now) name.now)) result }
     ensures own { IfErr result IsOwn }
 {
-    let column = bracket_vector(alloc, s, name)?;
-    copied(alloc, column, steps)
+    Ok(Operand::Lent(bracket_vector(alloc, s, name)?))
 }
 
-/// What a name gives where a vector is wanted.
-pub fn name_value<V: Vars, L: Ledger>(
+fn special_operand<'a, V: Vars>(
     alloc: Global,
-    s: &Scope<'_, V>,
-    name: &str,
-    steps: &mut Steps<L>,
-) -> Result<Valued, EvalFail>
+    s: &Scope<'a, V>,
+    special: Special,
+) -> Result<Operand<'a>, EvalFail>
     requires { IsScope s.now }
-    ensures answer { AnswersAs valued_of (quiet (name_vector (env_of V.bound s.now) name.now)) result }
+    ensures answer { AnswersAs operand_of (quiet (special_vector (env_of V.bound s.now) special)) result }
+    ensures own { IfErr result IsOwn }
+{
+    Ok(Operand::Own(special_value(alloc, s, special)?))
+}
+
+/// What a name gives where a vector is wanted. A column is lent.
+pub fn name_operand<'a, V: Vars>(
+    alloc: Global,
+    s: &Scope<'a, V>,
+    name: &str,
+) -> Result<Operand<'a>, EvalFail>
+    requires { IsScope s.now }
+    ensures answer { AnswersAs operand_of (quiet (name_vector (env_of V.bound s.now) name.now)) result }
     ensures own { IfErr result IsOwn }
 {
     if !s.inside {
-        return outside_value(alloc, s.vars, name, steps);
+        return outside_operand(alloc, s, name);
     }
     match special_named(name) {
-        Some(special) => special_value(alloc, s, special),
-        None => bracket_value(alloc, s, name, steps),
+        Some(special) => special_operand(alloc, s, special),
+        None => bracket_operand(alloc, s, name),
     }
 }

@@ -11,8 +11,9 @@
 //! and on the functions of `vec_funcs`; it knows the tree, and no statement and no bracket. It promises
 //! exactly the type `check_of` and exactly the value `value_in` of `session_model`, Meaning: the fault is
 //! the first in the order of the definition, and no fault is left out or added. Want of memory is the
-//! one free answer. No error blames a file. A tree is gone through once by each of the two, and a column
-//! is copied where a name stands for it alone.
+//! one free answer. No error blames a file. A tree is gone through once by each of the two. What
+//! operators and functions are given as a name is lent and only read; a column is copied where its name
+//! is the whole expression, and where `c` joins it.
 #![tactic(auto)]
 
 mod applied;
@@ -22,6 +23,7 @@ mod kinds;
 mod lent;
 mod literals;
 mod names;
+mod operands;
 mod operations;
 mod ranges;
 mod scope;

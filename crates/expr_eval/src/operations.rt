@@ -3,6 +3,7 @@ ghost use Rattle.arg_bind.specs.Answers.{AnswersAs, IsStop, IsOwn};
 ghost use Rattle.dt_base.specs.Warns.{both_warns};
 ghost use Rattle.dt_model.specs.Operations.{binary, unary, chosen, contained};
 ghost use Rattle.expr_eval.specs.Refusals.{Refuses};
+ghost use Rattle.expr_eval.specs.Slots.{operand_of};
 ghost use Rattle.expr_model.specs.Functions.{choice_value, conversion, na_test};
 ghost use Rattle.session_model.specs.Expression.{met, signed};
 ghost use Rattle.expr_model.specs.Operators.{op_word, unary_word, op_result, length_fault, tail_value, sign_value};
@@ -10,6 +11,7 @@ ghost use Rattle.vec_funcs.specs.Valued.{valued_of, vector_of};
 
 use crate::kinds::{op_name, unary_name};
 use crate::lent::unwarned;
+use crate::operands::Operand;
 use crate::ranges::range_value;
 use arg_bind::{EvalFail, stop};
 use dt_base::{Code, ColType, Fault, Op, Steps, Text, UnOp};
@@ -104,17 +106,17 @@ fn tail_value<L: Ledger>(
 pub fn met<L: Ledger>(
     alloc: Global,
     op: BinOp,
-    left: &Valued,
-    right: &Valued,
+    left: &Operand<'_>,
+    right: &Operand<'_>,
     steps: &mut Steps<L>,
 ) -> Result<Valued, EvalFail>
-    ensures answer { AnswersAs valued_of (met op (valued_of left.now) (valued_of right.now)) result }
+    ensures answer { AnswersAs valued_of (met op (operand_of left.now) (operand_of right.now)) result }
     ensures own { IfErr result IsOwn }
 {
-    let column = tail_value(alloc, op, &left.column, &right.column, steps)?;
+    let column = tail_value(alloc, op, left.column(), right.column(), steps)?;
     Ok(Valued {
         column,
-        warns: left.warns.both(right.warns),
+        warns: left.warns().both(right.warns()),
     })
 }
 
@@ -138,16 +140,16 @@ fn sign_value<L: Ledger>(
 pub fn signed<L: Ledger>(
     alloc: Global,
     op: UnOp,
-    a: &Valued,
+    a: &Operand<'_>,
     steps: &mut Steps<L>,
 ) -> Result<Valued, EvalFail>
-    ensures answer { AnswersAs valued_of (signed op (valued_of a.now)) result }
+    ensures answer { AnswersAs valued_of (signed op (operand_of a.now)) result }
     ensures own { IfErr result IsOwn }
 {
-    let column = sign_value(alloc, op, &a.column, steps)?;
+    let column = sign_value(alloc, op, a.column(), steps)?;
     Ok(Valued {
         column,
-        warns: a.warns,
+        warns: a.warns(),
     })
 }
 

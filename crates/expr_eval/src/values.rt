@@ -1,7 +1,7 @@
 ghost use Rattle.std.specs.Prelude.{◌≡◌, ◌<◌, [], length, map, IfErr};
 ghost use Rattle.arg_bind.specs.Answers.{AnswersAs, IsOwn};
 ghost use Rattle.expr_eval.specs.Scope.{env_of, IsScope};
-ghost use Rattle.expr_eval.specs.Slots.{slot_of};
+ghost use Rattle.expr_eval.specs.Slots.{operand_of, slot_of};
 ghost use Rattle.session_model.specs.Expression.{names_in, arg_at, flag_slot, value_tail, value_tails, signed, given, slot_as, slot_at, slots, each, combined, value_vectors, value_kind, value_call};
 ghost use Rattle.session_model.specs.Meaning.{meaning, arg_meaning, tail_meaning, value_in};
 ghost use Rattle.func_table.specs.Calls.{is_flag, kind_of};
@@ -11,8 +11,9 @@ ghost use Rattle.vec_funcs.specs.Valued.{valued_of};
 
 use crate::applied::{applied, combined};
 use crate::arguments::{add, flag_given, later_call, table_given};
-use crate::lent::name_value;
+use crate::lent::name_operand;
 use crate::literals::literal_value;
+use crate::operands::{Operand, owned};
 use crate::operations::{met, signed};
 use crate::tables::description;
 use crate::{Scope, Vars};
@@ -32,7 +33,6 @@ use vec_funcs::Valued;
 /// E05, a result out of range is E06 with the operator or function, too many cells are E07, and NA at
 /// an end of `:` is E19; each where its operator or function is valued, left to right and inner first.
 /// dtq's own rule, docs/LANGUAGE.md, section "Expressions".
-#[cycle(eval)]
 pub fn eval<V: Vars, L: Ledger>(
     alloc: Global,
     e: &Expr,
@@ -43,18 +43,34 @@ pub fn eval<V: Vars, L: Ledger>(
     ensures answer { AnswersAs valued_of (value_in e.now (env_of V.bound s.now)) result }
     ensures own { IfErr result IsOwn }
 {
+    let operand = eval_operand(alloc, e, s, steps)?;
+    owned(alloc, operand, steps)
+}
+
+/// What an expression gives to be read: the column of a bare name is lent.
+#[cycle(eval)]
+fn eval_operand<'a, V: Vars, L: Ledger>(
+    alloc: Global,
+    e: &Expr,
+    s: &Scope<'a, V>,
+    steps: &mut Steps<L>,
+) -> Result<Operand<'a>, EvalFail>
+    requires { IsScope s.now }
+    ensures answer { AnswersAs operand_of (value_in e.now (env_of V.bound s.now)) result }
+    ensures own { IfErr result IsOwn }
+{
     match e {
-        Expr::Lit { cell, kind } => literal_value(alloc, *kind, cell),
+        Expr::Lit { cell, kind } => Ok(Operand::Own(literal_value(alloc, *kind, cell)?)),
         Expr::Null => Err(stop(alloc, Code::E04, "NULL")),
         Expr::Infinite => Err(stop(alloc, Code::E04, "Inf")),
-        Expr::Name { name } => name_value(alloc, s, name.as_str(), steps),
-        Expr::Paren { inner } => eval(alloc, inner.get(), s, steps),
+        Expr::Name { name } => name_operand(alloc, s, name.as_str()),
+        Expr::Paren { inner } => eval_operand(alloc, inner.get(), s, steps),
         Expr::Minus { arg } => eval_sign(alloc, UnOp::Neg, arg.get(), s, steps),
         Expr::Not { arg } => eval_sign(alloc, UnOp::Not, arg.get(), s, steps),
         Expr::Chain { first, rest } => {
             eval_tails(
                 alloc,
-                eval(alloc, first.get(), s, steps)?,
+                eval_operand(alloc, first.get(), s, steps)?,
                 rest.as_slice(),
                 s,
                 steps,
@@ -70,31 +86,31 @@ pub fn eval<V: Vars, L: Ledger>(
 }
 
 #[cycle(eval)]
-fn eval_sign<V: Vars, L: Ledger>(
+fn eval_sign<'a, V: Vars, L: Ledger>(
     alloc: Global,
     op: UnOp,
     e: &Expr,
-    s: &Scope<'_, V>,
+    s: &Scope<'a, V>,
     steps: &mut Steps<L>,
-) -> Result<Valued, EvalFail>
+) -> Result<Operand<'a>, EvalFail>
     requires { IsScope s.now }
-    ensures answer { AnswersAs valued_of (then_do (value_in e.now (env_of V.bound s.now)) (signed op)) result }
+    ensures answer { AnswersAs operand_of (then_do (value_in e.now (env_of V.bound s.now)) (signed op)) result }
     ensures own { IfErr result IsOwn }
 {
-    let value = eval(alloc, e, s, steps)?;
-    signed(alloc, op, &value, steps)
+    let value = eval_operand(alloc, e, s, steps)?;
+    Ok(Operand::Own(signed(alloc, op, &value, steps)?))
 }
 
 #[cycle(eval)]
-fn eval_tails<V: Vars, L: Ledger>(
+fn eval_tails<'a, V: Vars, L: Ledger>(
     alloc: Global,
-    first: Valued,
+    first: Operand<'a>,
     rest: &[Tail],
-    s: &Scope<'_, V>,
+    s: &Scope<'a, V>,
     steps: &mut Steps<L>,
-) -> Result<Valued, EvalFail>
+) -> Result<Operand<'a>, EvalFail>
     requires { IsScope s.now }
-    ensures answer { AnswersAs valued_of (value_tails (env_of V.bound s.now) (valued_of first) (map tail_meaning rest.now)) result }
+    ensures answer { AnswersAs operand_of (value_tails (env_of V.bound s.now) (operand_of first.entry) (map tail_meaning rest.now)) result }
     ensures own { IfErr result IsOwn }
 {
     let mut value = first;
@@ -105,36 +121,36 @@ fn eval_tails<V: Vars, L: Ledger>(
 }
 
 #[cycle(eval)]
-fn eval_tail<V: Vars, L: Ledger>(
+fn eval_tail<'a, V: Vars, L: Ledger>(
     alloc: Global,
-    left: Valued,
+    left: Operand<'a>,
     t: &Tail,
-    s: &Scope<'_, V>,
+    s: &Scope<'a, V>,
     steps: &mut Steps<L>,
-) -> Result<Valued, EvalFail>
+) -> Result<Operand<'a>, EvalFail>
     requires { IsScope s.now }
-    ensures answer { AnswersAs valued_of (value_tail (env_of V.bound s.now) (valued_of left) (tail_meaning t.now)) result }
+    ensures answer { AnswersAs operand_of (value_tail (env_of V.bound s.now) (operand_of left.entry) (tail_meaning t.now)) result }
     ensures own { IfErr result IsOwn }
 {
-    let right = eval(alloc, &t.arg, s, steps)?;
-    met(alloc, t.op, &left, &right, steps)
+    let right = eval_operand(alloc, &t.arg, s, steps)?;
+    Ok(Operand::Own(met(alloc, t.op, &left, &right, steps)?))
 }
 
 #[cycle(eval)]
-fn eval_call<V: Vars, L: Ledger>(
+fn eval_call<'a, V: Vars, L: Ledger>(
     alloc: Global,
     name: &str,
     args: &[Arg],
-    s: &Scope<'_, V>,
+    s: &Scope<'a, V>,
     steps: &mut Steps<L>,
-) -> Result<Valued, EvalFail>
+) -> Result<Operand<'a>, EvalFail>
     requires { IsScope s.now }
-    ensures answer { AnswersAs valued_of (value_call (env_of V.bound s.now) name.now (map arg_meaning args.now)) result }
+    ensures answer { AnswersAs operand_of (value_call (env_of V.bound s.now) name.now (map arg_meaning args.now)) result }
     ensures own { IfErr result IsOwn }
 {
     match func_named(name) {
         None => Err(later_call(alloc, name)),
-        Some(f) => eval_kind(alloc, f, args, s, steps),
+        Some(f) => Ok(Operand::Own(eval_kind(alloc, f, args, s, steps)?)),
     }
 }
 
@@ -222,8 +238,8 @@ fn values_of_each<V: Vars, L: Ledger>(
 {
     let mut done = Vec::new(alloc);
     for a in args {
-        let value = eval(alloc, &a.value, s, steps)?;
-        add(&mut done, value)?;
+        let operand = eval_operand(alloc, &a.value, s, steps)?;
+        add(&mut done, owned(alloc, operand, steps)?)?;
     }
     Ok(done)
 }
@@ -245,13 +261,13 @@ fn eval_fixed<V: Vars, L: Ledger>(
 }
 
 #[cycle(eval)]
-fn eval_formals<V: Vars, L: Ledger>(
+fn eval_formals<'a, V: Vars, L: Ledger>(
     alloc: Global,
     ps: &[Formal],
     args: &[Arg],
-    s: &Scope<'_, V>,
+    s: &Scope<'a, V>,
     steps: &mut Steps<L>,
-) -> Result<Vec<Slot<Valued>>, EvalFail>
+) -> Result<Vec<Slot<Operand<'a>>>, EvalFail>
     requires scope { IsScope s.now }
     requires few { length ps.now < 1000 }
     ensures answer { AnswersAs (λ v. map slot_of v.items) (slots (λ m. m.value (env_of V.bound s.now)) (map arg_meaning args.now) [] (places (names_in (map arg_meaning args.now)) 0 ps.now)) result }
@@ -268,14 +284,14 @@ fn eval_formals<V: Vars, L: Ledger>(
 }
 
 #[cycle(eval)]
-fn eval_formal<V: Vars, L: Ledger>(
+fn eval_formal<'a, V: Vars, L: Ledger>(
     alloc: Global,
     p: Formal,
     before: usize,
     args: &[Arg],
-    s: &Scope<'_, V>,
+    s: &Scope<'a, V>,
     steps: &mut Steps<L>,
-) -> Result<Slot<Valued>, EvalFail>
+) -> Result<Slot<Operand<'a>>, EvalFail>
     requires { IsScope s.now }
     ensures answer { AnswersAs slot_of (slot_at (λ m. m.value (env_of V.bound s.now)) p (arg_at (map arg_meaning args.now) (place_of (names_in (map arg_meaning args.now)) before p))) result }
     ensures own { IfErr result IsOwn }
@@ -290,13 +306,13 @@ fn eval_formal<V: Vars, L: Ledger>(
 }
 
 #[cycle(eval)]
-fn eval_as<V: Vars, L: Ledger>(
+fn eval_as<'a, V: Vars, L: Ledger>(
     alloc: Global,
     p: Formal,
     a: &Arg,
-    s: &Scope<'_, V>,
+    s: &Scope<'a, V>,
     steps: &mut Steps<L>,
-) -> Result<Slot<Valued>, EvalFail>
+) -> Result<Slot<Operand<'a>>, EvalFail>
     requires { IsScope s.now }
     ensures answer { AnswersAs slot_of (slot_as (λ m. m.value (env_of V.bound s.now)) p (is_flag p) (arg_meaning a.now).means) result }
     ensures own { IfErr result IsOwn }
@@ -308,26 +324,26 @@ fn eval_as<V: Vars, L: Ledger>(
     }
 }
 
-fn eval_flag(alloc: Global, p: Formal, e: &Expr) -> Result<Slot<Valued>, EvalFail>
+fn eval_flag<'a>(alloc: Global, p: Formal, e: &Expr) -> Result<Slot<Operand<'a>>, EvalFail>
     ensures answer { AnswersAs slot_of (flag_slot p (meaning e.now).form) result }
     ensures own { IfErr result IsOwn }
 {
-    match flag_given::<Valued>(alloc, p, e) {
+    match flag_given::<Operand<'a>>(alloc, p, e) {
         Ok(slot) => Ok(slot),
         Err(fail) => Err(fail),
     }
 }
 
 #[cycle(eval)]
-fn eval_given<V: Vars, L: Ledger>(
+fn eval_given<'a, V: Vars, L: Ledger>(
     alloc: Global,
     a: &Arg,
-    s: &Scope<'_, V>,
+    s: &Scope<'a, V>,
     steps: &mut Steps<L>,
-) -> Result<Slot<Valued>, EvalFail>
+) -> Result<Slot<Operand<'a>>, EvalFail>
     requires { IsScope s.now }
     ensures answer { AnswersAs slot_of (given ((arg_meaning a.now).means.value (env_of V.bound s.now))) result }
     ensures own { IfErr result IsOwn }
 {
-    Ok(Slot::Given(eval(alloc, &a.value, s, steps)?))
+    Ok(Slot::Given(eval_operand(alloc, &a.value, s, steps)?))
 }

@@ -1,6 +1,6 @@
 use Rattle.std.proofs.Common.{◌≡◌, ◌≤◌, [], map, drop}
 use Rattle.expr_eval.specs.Scope.{env_of}
-use Rattle.expr_eval.specs.Slots.{slot_of}
+use Rattle.expr_eval.specs.Slots.{operand_of, slot_of}
 use Rattle.session_model.specs.Expression.{names_in, value_tails, each, slots}
 use Rattle.session_model.specs.Meaning.{arg_meaning, tail_meaning}
 use Rattle.session_model.specs.Binding.{places}
@@ -9,8 +9,8 @@ use Rattle.expr_eval.proofs.values.+eval.Given as goal
 
 abbrev pub invariant-eval_tails-loop-t : goal.invariant-eval_tails-loop-t
 invariant-eval_tails-loop-t g l =
-    value_tails (env_of g.V.Vars.bound l.s) (valued_of l.fn.first) (map tail_meaning l.rest)
-    ≡ value_tails (env_of g.V.Vars.bound l.s) (valued_of l.value) (map tail_meaning (drop l.t-index l.rest))
+    value_tails (env_of g.V.Vars.bound l.s) (operand_of l.fn.first) (map tail_meaning l.rest)
+    ≡ value_tails (env_of g.V.Vars.bound l.s) (operand_of l.value) (map tail_meaning (drop l.t-index l.rest))
 
 abbrev pub invariant-values_of_each-loop-a : goal.invariant-values_of_each-loop-a
 invariant-values_of_each-loop-a g l =
