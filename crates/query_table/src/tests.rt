@@ -86,19 +86,39 @@ fn check_rows<L: Ledger, R: Abort>(
     Ok(())
 }
 
-fn check_table<L: Ledger, R: Abort>(
-    rt: &R,
-    alloc: Global,
-    before: &str,
-    rows: &[Row],
-    blank: Blank,
-) -> Result<(), Fail>
+/// The rows about a table: i and j.
+fn all_rows<L: Ledger, R: Abort>(rt: &R, alloc: Global, blank: Blank) -> Result<(), Fail>
     requires name { blank.name ≡ L.name }
     requires parts { blank.parts ≡ L.parts }
     requires some { 0 < blank.parts }
 {
     let mut steps = Steps::<L>::new(blank);
-    check_rows(rt, alloc, before, rows, &mut steps)?;
+    check_rows(rt, alloc, TABLE, &ROWS, &mut steps)?;
+    check_rows(rt, alloc, TABLE, &COLUMNS, &mut steps)?;
+    Ok(())
+}
+
+/// The rows about chains of brackets, and about what nothing serves yet.
+fn all_chains<L: Ledger, R: Abort>(rt: &R, alloc: Global, blank: Blank) -> Result<(), Fail>
+    requires name { blank.name ≡ L.name }
+    requires parts { blank.parts ≡ L.parts }
+    requires some { 0 < blank.parts }
+{
+    let mut steps = Steps::<L>::new(blank);
+    check_rows(rt, alloc, TABLE, &CHAINS, &mut steps)?;
+    check_rows(rt, alloc, TABLE, &LATER, &mut steps)?;
+    Ok(())
+}
+
+/// The rows about vectors, and the examples of the manual.
+fn all_functions<L: Ledger, R: Abort>(rt: &R, alloc: Global, blank: Blank) -> Result<(), Fail>
+    requires name { blank.name ≡ L.name }
+    requires parts { blank.parts ≡ L.parts }
+    requires some { 0 < blank.parts }
+{
+    let mut steps = Steps::<L>::new(blank);
+    check_rows(rt, alloc, VECTORS, &FUNCTIONS, &mut steps)?;
+    check_rows(rt, alloc, "", &MANUAL, &mut steps)?;
     Ok(())
 }
 
@@ -147,36 +167,21 @@ fn check_lives<L: Ledger, R: Abort>(rt: &R, alloc: Global, blank: Blank) -> Resu
 }
 
 #[test]
-fn rows_are_chosen(rt: HostRuntime) -> Result<(), Fail> {
-    check_table::<Brand, HostRuntime>(&rt, rt.alloc(), TABLE, &ROWS, Blank::new(1))
-}
-
-#[test]
-fn columns_are_given(rt: HostRuntime) -> Result<(), Fail> {
-    check_table::<Brand, HostRuntime>(&rt, rt.alloc(), TABLE, &COLUMNS, Blank::new(1))
+fn brackets_choose_and_compute(rt: HostRuntime) -> Result<(), Fail> {
+    all_rows::<Brand, HostRuntime>(&rt, rt.alloc(), Blank::new(1))
 }
 
 #[test]
 fn brackets_go_from_left_to_right(rt: HostRuntime) -> Result<(), Fail> {
-    check_table::<Brand, HostRuntime>(&rt, rt.alloc(), TABLE, &CHAINS, Blank::new(1))
+    all_chains::<Brand, HostRuntime>(&rt, rt.alloc(), Blank::new(1))
 }
 
 #[test]
-fn later_forms_are_unbuilt(rt: HostRuntime) -> Result<(), Fail> {
-    check_table::<Brand, HostRuntime>(&rt, rt.alloc(), TABLE, &LATER, Blank::new(1))
-}
-
-#[test]
-fn functions_answer(rt: HostRuntime) -> Result<(), Fail> {
-    check_table::<Brand, HostRuntime>(&rt, rt.alloc(), VECTORS, &FUNCTIONS, Blank::new(1))
+fn functions_answer_and_the_manual_is_right(rt: HostRuntime) -> Result<(), Fail> {
+    all_functions::<Brand, HostRuntime>(&rt, rt.alloc(), Blank::new(1))
 }
 
 #[test]
 fn empty_brackets_are_aliases(rt: HostRuntime) -> Result<(), Fail> {
     check_lives::<Brand, HostRuntime>(&rt, rt.alloc(), Blank::new(1))
-}
-
-#[test]
-fn the_manual_is_right(rt: HostRuntime) -> Result<(), Fail> {
-    check_table::<Brand, HostRuntime>(&rt, rt.alloc(), "", &MANUAL, Blank::new(1))
 }
