@@ -81,11 +81,16 @@ pub not_refused : (names : List (List ℕ)) (header : Record) (frame : FrameSeen
 not_refused names header frame named wide columns rows cells =
     rw named (never_refused header frame (omega arith) rows cells (omega arith))
 
+-- a file has as many columns as its header has fields
+as_wide : (header : Record) (rows : List Record) → length (records_columns header rows) ≡ length header
+as_wide header rows = length-map _ _ ∙ length-range_with_len 0 (length header)
+
 -- the table of a frame under these names reads as the definition says
 pub table_is : (header : Record) (rows : List Record) (frame : FrameSeen) → vectors_of frame.columns ≡ records_columns header rows
     → frame.rows ≡ length rows → plain (made (column_names header) frame) ≡ records_table header rows
 table_is header rows frame columns count =
-    let wide : length (column_names header) ≡ length header = names_after-length header [] ∙ omega arith in
+    let wide : length (column_names header) ≡ length (records_columns header rows) =
+    names_after-length header [] ∙ omega arith ∙ sym (as_wide header rows) in
     rw (columns, count, wide) refl
 
 -- what reading answers where nothing is at fault

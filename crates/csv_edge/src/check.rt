@@ -32,7 +32,7 @@ pub(crate) fn checked_row(
     ensures fields { IfOk result (λ row. fields_of row ≡ fields_of raw) }
     ensures right { IfOk result (λ _. row_fault width before (fields_of raw) ≡ None) }
     ensures width { IfOk result (λ row. length (fields_of row) ≡ width) }
-    ensures room { IfOk result (λ _. before < 16777216) }
+    ensures room { IfOk result (λ _. before < MAX_ROWS) }
     ensures refused { IfErr result (λ e. Tells e (row_fault width before (fields_of raw))) }
 {
     if before >= MAX_ROWS {

@@ -1,6 +1,7 @@
 ghost use Rattle.std.specs.Prelude.{◌≡◌, ◌≤◌, All, IfOk, length, map};
 ghost use Rattle.csv.specs.Records.{fields_of};
 ghost use Rattle.csv_edge.specs.Columns.{first_length, column_vector};
+ghost use Rattle.dt_base.specs.declared.limits.TheConstants.{MAX_ROWS};
 ghost use Rattle.na_vector.specs.Frame.{vectors_of};
 
 use crate::typed::column_of;
@@ -12,7 +13,7 @@ use std::alloc::{AllocError, Global};
 /// is made.
 pub(crate) fn frame_of(alloc: Global, columns: Vec<StringRecord>) -> Result<Frame, AllocError>
     requires one_length { All (λ column. length (fields_of column) ≡ first_length columns.items) columns.items }
-    requires short { first_length columns.items ≤ 16777216 }
+    requires short { first_length columns.items ≤ MAX_ROWS }
     ensures vectors { IfOk result (λ frame. vectors_of frame.columns ≡ map column_vector columns.items) }
     ensures rows { IfOk result (λ frame. frame.rows ≡ first_length columns.items) }
 {

@@ -2,6 +2,7 @@ ghost use Rattle.std.specs.Prelude.{◌≡◌, ◌*◌, ◌<◌, ◌≤◌, ◌�
 ghost use Rattle.csv.specs.Records.{fields_of};
 ghost use Rattle.csv_edge.specs.Faults.{Refuses};
 ghost use Rattle.csv_edge.specs.Left.{left, IsOpen};
+ghost use Rattle.dt_base.specs.declared.limits.TheConstants.{MAX_FILE_BYTES, MAX_CELLS};
 ghost use Rattle.dt_table.specs.Plain.{plain};
 ghost use Rattle.run_model.specs.Csv as file;
 
@@ -35,7 +36,7 @@ pub fn read_table<L: Ledger>(
     bytes: &[u8],
     _steps: &mut Steps<L>,
 ) -> Result<(Table, Warns), CsvFail>
-    requires { length bytes.now ≤ 67108864 }
+    requires { length bytes.now ≤ MAX_FILE_BYTES }
     ensures table { IfOk result (λ p. file.read_csv bytes.now ≡ Ok (plain p.0, p.1)) }
     ensures refused { IfErr result (λ e. Refuses e (file.read_csv bytes.now)) }
     ensures touches { _steps.new ≡ _steps.old }
@@ -57,7 +58,7 @@ fn read_below(
 ) -> Result<(Table, Warns), CsvFail>
     requires open { IsOpen reader.old }
     requires some { 0 < length (fields_of header) }
-    requires cells { file.rows_fault (length (fields_of header)) 0 (left reader.old) ≡ None → length (left reader.old) * length (fields_of header) ≤ 67108864 }
+    requires cells { file.rows_fault (length (fields_of header)) 0 (left reader.old) ≡ None → length (left reader.old) * length (fields_of header) ≤ MAX_CELLS }
     ensures table { IfOk result (λ p. file.read_records (fields_of header ∷ left reader.old) ≡ Ok (plain p.0, p.1)) }
     ensures refused { IfErr result (λ e. Refuses e (file.read_records (fields_of header ∷ left reader.old))) }
 {

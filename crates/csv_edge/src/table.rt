@@ -1,8 +1,9 @@
 ghost use Rattle.std.specs.Prelude.{◌≡◌, ◌*◌, ◌≤◌, IfOk, length};
 ghost use Rattle.csv.specs.Records.{fields_of};
+ghost use Rattle.dt_base.specs.declared.limits.TheConstants.{MAX_ROWS, MAX_CELLS, MAX_COLUMNS};
 ghost use Rattle.dt_table.specs.Plain.{plain};
 ghost use Rattle.dt_table.specs.Table.{made};
-ghost use Rattle.run_model.specs.Csv.{no_table};
+ghost use Rattle.dt_model.specs.Table.{no_table};
 ghost use Rattle.run_model.specs.CsvNames as file;
 
 use crate::names::{column_names, name_warns};
@@ -20,9 +21,9 @@ pub(crate) fn named_table(
     frame: Frame,
 ) -> Result<(Table, Warns), AllocError>
     requires width { length frame.columns ≡ length (fields_of header.now) }
-    requires columns { length (fields_of header.now) ≤ 4096 }
-    requires rows { frame.rows ≤ 16777216 }
-    requires cells { frame.rows * length frame.columns ≤ 67108864 }
+    requires columns { length (fields_of header.now) ≤ MAX_COLUMNS }
+    requires rows { frame.rows ≤ MAX_ROWS }
+    requires cells { frame.rows * length frame.columns ≤ MAX_CELLS }
     ensures table { IfOk result (λ p. p.0 ≡ made (file.column_names (fields_of header.now)) frame) }
     ensures warns { IfOk result (λ p. p.1 ≡ file.name_warns (fields_of header.now)) }
 {

@@ -1,5 +1,6 @@
 //! Files in and out. What a file gives and what a table is written as stands here by hand.
 ghost use Rattle.std.specs.Prelude.{◌≡◌, ◌<◌, ◌≤◌, length};
+ghost use Rattle.dt_base.specs.declared.limits.TheConstants.{MAX_FILE_BYTES};
 
 use super::*;
 use dt_base::{CellRef, ColType, Steps, Warn};
@@ -61,7 +62,7 @@ fn push_row<L: Ledger>(
 /// What a file gives, in words: the table, with `W06` before it where its names were repaired, or
 /// the refusal.
 fn given<L: Ledger>(alloc: Global, bytes: &[u8], steps: &mut Steps<L>) -> Result<String, AllocError>
-    requires { length bytes.now ≤ 67108864 }
+    requires { length bytes.now ≤ MAX_FILE_BYTES }
 {
     match read_table(alloc, bytes, steps) {
         Ok((t, warns)) => {

@@ -18,6 +18,7 @@ use Rattle.std.specs.Prelude.{◌≡◌, ◌⊎◌, ℕ, Bool, true, false, List
 use Rattle.std.specs.Option.{is_some}
 use Rattle.std.specs.FinMap as finite
 use Rattle.dt_base.specs.declared.fault.Fault.{Fault}
+use Rattle.dt_base.specs.declared.limits.TheConstants.{MAX_SCRIPT_BYTES}
 use Rattle.dt_model.specs.State.{State, empty_state}
 use Rattle.dt_session.specs.Lines.{EndsInFault}
 use Rattle.dt_tree.specs.declared.fault.ScriptFault.{ScriptFault}
@@ -45,7 +46,7 @@ usage = on_err usage_line
 
 -- the bytes of a script, at most 1,048,576
 abbrev pub script_bytes : FileMap → List ℕ → Result (List ℕ) Fault
-script_bytes files name = file_bytes 1048576 name (finite.get files name)
+script_bytes files name = file_bytes MAX_SCRIPT_BYTES name (finite.get files name)
 
 -- a script that ended with a fault stopped
 abbrev pub status_of : Option (ℕ × Fault) → Status

@@ -9,6 +9,7 @@ use Rattle.std.specs.Prelude.{◌≡◌, ℕ, List, Option}
 use Rattle.dt_base.specs.declared.fault.Code.TheVariants.{E01, E15, E16, E18, E21, E22}
 use Rattle.dt_base.specs.Fault.{fault}
 use Rattle.dt_base.specs.declared.fault.Fault.{Fault}
+use Rattle.dt_base.specs.declared.limits.TheConstants.{MAX_SCRIPT_BYTES}
 use Rattle.dt_session.specs.declared.fail.ExecFail.{ExecFail}
 use Rattle.dt_session.specs.declared.fail.ExecFail.TheVariants as exec
 use Rattle.dt_script.specs.declared.bytes.ParseFail.{ParseFail}
@@ -39,7 +40,7 @@ absent name = fault E15 name
 
 -- the script has more than 1,048,576 bytes
 abbrev pub too_long : List ℕ → Fault
-too_long name = record { code = E16; what = name; n = 1048576; m = 0 }
+too_long name = record { code = E16; what = name; n = MAX_SCRIPT_BYTES; m = 0 }
 
 -- the line that tells why a script is refused; of memory nothing is told
 abbrev pub told_line : ParseFail → ℕ

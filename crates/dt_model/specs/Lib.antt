@@ -1,4 +1,5 @@
 pub mod Coercion
+pub mod Combine
 pub mod Operations
 pub mod Spelling
 pub mod State

@@ -8,7 +8,6 @@
 --   cell_for cells p       the cell that stands at place p: cell p, or the only one
 --   binary o a b           an operation on two vectors
 --   unary o a              an operation on one vector
---   combined a b           the cells of two vectors in a row: `c(a, b)`
 --   chosen test a b        for each place the cell of a or that of b: `fifelse`
 --   contained a b          for each cell of a whether b has it: `%in%`
 use Rattle.std.specs.Prelude.{ℕ, ◌+◌, ◌/◌, ◌^◌, ℤ, pos, negsuc, neg_ℤ, ◌+ℤ◌, ◌-ℤ◌, ◌*ℤ◌, unsigned_abs, Bool, true, false, not, ◌||◌, ◌&&◌, ◌==◌, nat_lt, if◌then◌else◌, List, length, map, ◌++◌, position, Option, None, Some, is_none, Result, Ok, Err}
@@ -253,14 +252,7 @@ binary o a b = typed (op_type o a.kind b.kind) (over_cells (op_cell o a.kind b.k
 abbrev pub unary : UnOp → Vector → Result Vector OpFault
 unary o a = typed (unary_type o a.kind) (Ok (map (unary_cell o) a.cells))
 
--- ---- `c`, `fifelse` and `%in%`: in the common type
-
--- all cells in order, as long as there are at most 16,777,216
-abbrev pub combined : Vector → Vector → Result Vector OpFault
-combined a b =
-    let t = common a.kind b.kind in
-    if nat_lt 16777216 (length a.cells + length b.cells) then Err TooManyRows
-    else Ok (record { kind = t; cells = map (brought t) a.cells ++ map (brought t) b.cells })
+-- ---- `fifelse` and `%in%`: in the common type
 
 abbrev pub is_logical : ColType → Bool
 is_logical ty.Lgl = true

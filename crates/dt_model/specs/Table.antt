@@ -5,16 +5,20 @@
 --   rows_of n columns      their first n rows
 --   column_of c rows       column c of a list of rows
 --   heads_of names columns the columns' names and types
+--   table_of names n columns   the new table of these columns of n cells
+--   no_table               the table without columns
+--   past_limit n w         the first limit that a new table of n rows and w columns passes
 --   name_at names c        the name at a place, counted from 0
 --   names_at names cols    the names at these places
 --   place_of name names    the first place of a name, if it is there
 --   is_repeated names c    whether the name at place c stands at a lesser place too
 --   first_repeated names   the least such place
-use Rattle.std.specs.Prelude.{ℕ, Bool, List, [], ◌∷◌, Option, map, take, find, position, slice_index_or, length}
+use Rattle.std.specs.Prelude.{ℕ, ◌+◌, ◌*◌, nat_lt, Bool, if◌then◌else◌, List, [], ◌∷◌, Option, None, Some, map, take, find, position, slice_index_or, length}
 use Rattle.std.specs.List.{range_with_len, list_any}
 use Rattle.std.specs.Str.{bytes_eq}
 use Rattle.dt_base.specs.declared.cell.Cell.{Cell}
 use Rattle.dt_base.specs.declared.cell.ColType.{ColType}
+use Rattle.dt_base.specs.declared.limits.TheConstants.{MAX_CELLS, MAX_COLUMNS, MAX_ROWS, SPARE_COLUMNS}
 use Rattle.dt_model.specs.Vector.{Vector, cell_at}
 
 -- a column's name and type
@@ -47,6 +51,33 @@ column_of c rows = map (λ row. cell_at row c) rows
 abbrev pub heads_of : List (List ℕ) → List Vector → List ColumnHead
 heads_of (name ∷ names) (v ∷ columns) = record { name = name; kind = v.kind } ∷ heads_of names columns
 heads_of _ _ = []
+
+-- a new table has no key and no index, and 1,024 slots more than columns
+abbrev pub table_of : List (List ℕ) → ℕ → List Vector → PlainTable
+table_of names rows columns = record {
+  columns = heads_of names columns;
+  rows = rows_of rows columns;
+  key = [];
+  indices = [];
+  slots = length columns + SPARE_COLUMNS;
+}
+
+-- the table without columns
+abbrev pub no_table : PlainTable
+no_table = table_of [] 0 []
+
+-- what a table has a limit on
+pub data TableLimit : Type 0 where
+  Rows : TableLimit
+  Cells : TableLimit
+  Columns : TableLimit
+
+-- the limits on a new table, in the order in which they are looked at: rows, cells, columns
+abbrev pub past_limit : ℕ → ℕ → Option TableLimit
+past_limit rows width =
+    if nat_lt MAX_ROWS rows then Some Rows
+    else (if nat_lt MAX_CELLS (rows * width) then Some Cells
+    else (if nat_lt MAX_COLUMNS width then Some Columns else None))
 
 -- the name at a place; past the end it is empty, as no column's is
 abbrev pub name_at : List (List ℕ) → ℕ → List ℕ

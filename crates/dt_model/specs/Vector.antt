@@ -10,6 +10,7 @@ use Rattle.dt_base.specs.declared.cell.Cell.{Cell}
 use Rattle.dt_base.specs.declared.cell.Cell.TheVariants.{Na}
 use Rattle.dt_base.specs.declared.cell.ColType.{ColType}
 use Rattle.dt_base.specs.Cell.{IsOfType}
+use Rattle.dt_base.specs.declared.limits.TheConstants.{MAX_ROWS}
 
 -- a type and a list of cells
 pub record Vector : Type 0 where
@@ -19,7 +20,7 @@ pub record Vector : Type 0 where
 -- each cell is NA or of the type, and the list is within the limit on lengths
 pub record IsVector (v : Vector) : Type 0 where
   pub typed : All (IsOfType v.kind) v.cells
-  pub short : length v.cells ≤ 16777216
+  pub short : length v.cells ≤ MAX_ROWS
 
 -- the cell at a place, or NA past the end
 abbrev pub cell_at : List Cell → ℕ → Cell

@@ -3,6 +3,7 @@
 --   AreRows t c     the places are rows of the table, within the limit; where it has no columns there
 --                   are none
 use Rattle.std.specs.Prelude.{◌≡◌, ◌≤◌, All, length}
+use Rattle.dt_base.specs.declared.limits.TheConstants.{MAX_ROWS}
 use Rattle.dt_model.specs.Vector.{IsWithin}
 use Rattle.dt_query.specs.declared.rows.Chosen.{Chosen}
 use Rattle.dt_table.specs.Table.{TableSeen}
@@ -16,5 +17,5 @@ chosen_of c = record { places = c.positions.items; warns = c.warns }
 -- rows of the table, or rows of NA; without columns there are none
 pub record AreRows (t : TableSeen) (c : Chosen) : Type 0 where
   pub within : All (IsWithin t.frame.rows) c.positions.items
-  pub short : length c.positions.items ≤ 16777216
+  pub short : length c.positions.items ≤ MAX_ROWS
   pub none : rows_with (length t.frame.columns) (length c.positions.items) ≡ length c.positions.items

@@ -1,6 +1,7 @@
 ghost use Rattle.std.specs.Prelude.{◌≡◌, ◌≤◌, ◌⊎◌, ◌∷◌, ◌++◌, [], IfOk, OnOk, IfErr, All, length, map};
 ghost use Rattle.arg_bind.specs.Answers.{AnswersAs, IsOwn};
 ghost use Rattle.dt_base.specs.Warns.{no_warns};
+ghost use Rattle.dt_base.specs.declared.limits.TheConstants.{MAX_ROWS};
 ghost use Rattle.dt_query.specs.Answers.{plain_answer};
 ghost use Rattle.dt_query.specs.Refusals.{IsNoMemory};
 ghost use Rattle.dt_table.specs.Plain.{plain};
@@ -96,7 +97,7 @@ fn repeated_columns<L: Ledger>(
     steps: &mut Steps<L>,
 ) -> Result<Frame, AllocError>
     requires fitting { All (λ v. (length v.column.vector.cells ≡ 1) ⊎ (length v.column.vector.cells ≡ n)) values.items }
-    requires short { n ≤ 16777216 }
+    requires short { n ≤ MAX_ROWS }
     ensures vectors { IfOk result (λ f. vectors_of f.columns ≡ map (λ v. repeated n v.column.vector) values.items) }
     ensures rows { IfOk result (λ f. f.rows ≡ rows_with (length values.items) n) }
     ensures count { IfOk result (λ f. length f.columns ≡ length values.items) }

@@ -1,5 +1,6 @@
 ghost use Rattle.std.specs.Prelude.{◌≡◌, ◌≢◌, ◌≤◌, IfOk, IfErr, OnOk, OnErr, false, IsSome, IsNone, IsErrOf, length};
 ghost use Rattle.arg_bind.specs.Answers.{is_of_file};
+ghost use Rattle.dt_base.specs.declared.limits.TheConstants.{MAX_SCRIPT_BYTES};
 ghost use Rattle.dt_world.specs.Causes.{Rose};
 ghost use Rattle.dt_world.specs.Told.{appended, AppendedPart};
 ghost use Rattle.run_model.specs.Messages.{printed_fault};
@@ -200,7 +201,7 @@ pub fn run_script<F: Files, O: Sink, E: Sink, L: Ledger>(
     err: &mut E,
     steps: &mut Steps<L>,
 ) -> Result<(), RunFail>
-    requires { length bytes.now ≤ 1048576 }
+    requires { length bytes.now ≤ MAX_SCRIPT_BYTES }
     ensures done { IsSome (F.held files.old) → OnOk result (ReadsAs bytes.now (state_of session.old) (world (F.held files.old) (O.bytes out.old) (E.bytes err.old)) (λ e. IsEnd e (state_of session.new) (world (F.held files.new) (O.bytes out.new) (E.bytes err.new)))) }
     ensures ends { IsSome (F.held files.old) → IfErr result (EndsAs bytes.now (state_of session.old) (world (F.held files.old) (O.bytes out.old) (E.bytes err.old)) (state_of session.new) (world (F.held files.new) (O.bytes out.new) (E.bytes err.new))) }
     ensures put { IfErr result (λ r. TellsFault r.line (E.bytes err.old) (E.bytes err.new) r.cause) }

@@ -1,18 +1,20 @@
 -- When a table is refused.
 --   refusal names f    why a table of these names and this frame is refused, if it is
 --   IsCause e r        e is that refusal, or want of memory
-use Rattle.std.specs.Prelude.{◌≡◌, ◌*◌, ℕ, List, length, nat_lt, Option, None, Some, cond}
-use Rattle.dt_model.specs.Table.{first_repeated}
+use Rattle.std.specs.Prelude.{◌≡◌, ℕ, List, length, Option, None, Some, option_map}
+use Rattle.dt_model.specs.Table.{TableLimit, Rows, Cells, Columns, first_repeated, past_limit}
 use Rattle.na_vector.specs.Frame.{FrameSeen}
 use Rattle.dt_table.specs.declared.make.MakeFail.{MakeFail}
 use Rattle.dt_table.specs.declared.make.MakeFail.TheVariants.{Duplicate, TooManyRows, TooManyCells, TooManyColumns, NoMemory}
 
--- the limits, in the order in which they are looked at: rows, cells, columns
+-- a table that passes a limit is refused
+abbrev pub refusal_past : TableLimit → MakeFail
+refusal_past Rows = TooManyRows
+refusal_past Cells = TooManyCells
+refusal_past Columns = TooManyColumns
+
 abbrev pub limit_refusal : ℕ → ℕ → Option MakeFail
-limit_refusal rows width =
-    cond (nat_lt 16777216 rows) (Some TooManyRows)
-    (cond (nat_lt 67108864 (rows * width)) (Some TooManyCells)
-    (cond (nat_lt 4096 width) (Some TooManyColumns) None))
+limit_refusal rows width = option_map refusal_past (past_limit rows width)
 
 -- a repeated name comes first, with the least place that repeats one
 abbrev pub name_refusal : Option ℕ → Option MakeFail → Option MakeFail

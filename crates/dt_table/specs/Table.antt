@@ -10,6 +10,7 @@
 use Rattle.std.specs.Prelude.{◌≡◌, ◌+◌, ◌*◌, ◌<◌, ◌≤◌, ◌==◌, ℕ, List, [], length, All}
 use Rattle.std.specs.List.{IsDistinct}
 use Rattle.std.specs.Str.{bytes_eq}
+use Rattle.dt_base.specs.declared.limits.TheConstants.{MAX_CELLS, SPARE_COLUMNS}
 use Rattle.na_vector.specs.Frame.{FrameSeen, IsFrame, vectors_of}
 
 -- the columns of an index, and the rows in its order, both counted from 0
@@ -49,14 +50,14 @@ pub record IsTable (t : TableSeen) : Type 0 where
   pub frame : IsFrame t.frame.columns t.frame.rows
   pub named : length t.names ≡ length t.frame.columns
   pub names : IsNames t.names
-  pub cells : t.frame.rows * length t.frame.columns ≤ 67108864
+  pub cells : t.frame.rows * length t.frame.columns ≤ MAX_CELLS
   pub width : length t.names ≤ t.slots
   pub key : IsColumnList (length t.names) t.key
   pub indices : All (IsIndex (length t.names)) t.indices
 
 -- a new table has no key and no index, and 1,024 slots more than columns
 abbrev pub made : List (List ℕ) → FrameSeen → TableSeen
-made names frame = record { names = names; frame = frame; key = []; indices = []; slots = length names + 1024 }
+made names frame = record { names = names; frame = frame; key = []; indices = []; slots = length names + SPARE_COLUMNS }
 
 -- a copy has 1,024 slots more than columns, and all else as it was
 pub record IsCopy (t copy : TableSeen) : Type 0 where
@@ -65,4 +66,4 @@ pub record IsCopy (t copy : TableSeen) : Type 0 where
   pub rows : copy.frame.rows ≡ t.frame.rows
   pub key : copy.key ≡ t.key
   pub indices : copy.indices ≡ t.indices
-  pub slots : copy.slots ≡ length t.names + 1024
+  pub slots : copy.slots ≡ length t.names + SPARE_COLUMNS

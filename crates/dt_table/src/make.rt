@@ -47,7 +47,7 @@ pub fn repeated_name(alloc: Global, names: &[ColName]) -> Result<Option<usize>, 
 
 /// Whether so many rows of so many cells are within the limit on cells.
 pub fn is_within_cells(rows: usize, width: usize) -> bool
-    ensures { IsTrue result ↔ (rows * width ≤ 67108864) }
+    ensures { IsTrue result ↔ (rows * width ≤ MAX_CELLS) }
 {
     match rows.checked_mul(width) {
         Some(cells) => cells <= MAX_CELLS,

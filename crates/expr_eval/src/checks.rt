@@ -7,7 +7,7 @@ ghost use Rattle.expr_model.specs.Operators.{sign_type};
 ghost use Rattle.func_table.specs.Calls.{arity_of, formals_of, func_of, is_flag, kind_of};
 ghost use Rattle.session_model.specs.Binding.{places, place_of};
 ghost use Rattle.vector_model.specs.Then.{then_do};
-ghost use Rattle.vector_model.specs.Combine.{common_of};
+ghost use Rattle.dt_model.specs.Combine.{common_of};
 
 use crate::arguments::{add, flag_given, later_call, table_given};
 use crate::kinds::{description_type, func_type, sign_type, tail_type};

@@ -2,6 +2,7 @@ ghost use Rattle.std.specs.Prelude.{◌≡◌, ◌<◌, ◌≤◌, ◌^◌, leng
 ghost use Rattle.arg_bind.specs.Answers.{AnswersAs, IsOwn};
 ghost use Rattle.dt_base.specs.Warns.{no_warns};
 ghost use Rattle.dt_base.specs.declared.cell.Cell.TheVariants as is;
+ghost use Rattle.dt_base.specs.declared.limits.TheConstants.{MAX_ROWS};
 ghost use Rattle.expr_eval.specs.Scope.{env_of, IsScope};
 ghost use Rattle.expr_eval.specs.Slots.{operand_of};
 ghost use Rattle.session_model.specs.Expression.{quiet};
@@ -54,7 +55,7 @@ fn row_words(alloc: Global, positions: &[Option<u32>]) -> Result<Vec<i64>, Alloc
 
 /// The column of the rows' numbers.
 fn position_column(alloc: Global, positions: &[Option<u32>]) -> Result<Column, AllocError>
-    requires { length positions.now ≤ 16777216 }
+    requires { length positions.now ≤ MAX_ROWS }
     ensures { IfOk result (λ c. c.vector ≡ vector_from ColType.Int (map row_number positions.now)) }
 {
     Ok(Column::from_ints(row_words(alloc, positions)?))

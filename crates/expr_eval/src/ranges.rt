@@ -97,7 +97,7 @@ fn distance(x: i64, y: i64) -> u128
 /// The number k steps up from one, and not above another.
 fn risen(x: i64, k: usize, y: i64) -> i64
     requires below { (x +ℤ pos k) ≤ℤ y }
-    requires few { k ≤ 16777216 }
+    requires few { k ≤ MAX_ROWS }
     ensures { result ≡ x +ℤ pos k }
 {
     x + k as i64
@@ -106,7 +106,7 @@ fn risen(x: i64, k: usize, y: i64) -> i64
 /// The number k steps down from one, and not below another.
 fn fallen(x: i64, k: usize, y: i64) -> i64
     requires above { y ≤ℤ (x -ℤ pos k) }
-    requires few { k ≤ 16777216 }
+    requires few { k ≤ MAX_ROWS }
     ensures { result ≡ x -ℤ pos k }
 {
     x - k as i64
@@ -131,7 +131,7 @@ fn word_towards(ends: &Ends, k: usize) -> i64
     requires from { IsNumber ends.now.from }
     requires to { IsNumber ends.now.to }
     requires within { k ≤ distance ends.now.from ends.now.to }
-    requires few { k ≤ 16777216 }
+    requires few { k ≤ MAX_ROWS }
     ensures { int_cell result ≡ towards ends.now.from ends.now.to k }
 {
     if is_falling(ends) {
@@ -146,7 +146,7 @@ fn put_word(words: &mut Vec<i64>, ends: &Ends, k: usize) -> Result<(), AllocErro
     requires from { IsNumber ends.now.from }
     requires to { IsNumber ends.now.to }
     requires within { k ≤ distance ends.now.from ends.now.to }
-    requires few { k ≤ 16777216 }
+    requires few { k ≤ MAX_ROWS }
     ensures cells { OnOk result
         (map int_cell words.new.items ≡ map int_cell words.old.items ++ towards ends.now.from ends.now.to k ∷ []) }
     ensures count { OnOk result (length words.new.items ≡ length words.old.items + 1) }
@@ -160,7 +160,7 @@ fn words_between(alloc: Global, ends: &Ends, n: usize) -> Result<Vec<i64>, Alloc
     requires from { IsNumber ends.now.from }
     requires to { IsNumber ends.now.to }
     requires within { n ≤ distance ends.now.from ends.now.to + 1 }
-    requires few { n ≤ 16777216 }
+    requires few { n ≤ MAX_ROWS }
     ensures cells { IfOk result (λ v. map int_cell v.items ≡ map (towards ends.now.from ends.now.to) (range_with_len 0 n)) }
     ensures count { IfOk result (λ v. length v.items ≡ n) }
 {

@@ -51,7 +51,7 @@ fn copied_names(alloc: Global, names: &[ColName]) -> Result<Vec<Option<Text>>, A
 
 /// The column of the names.
 fn name_column(alloc: Global, names: &[ColName]) -> Result<Column, AllocError>
-    requires { length names.now ≤ 16777216 }
+    requires { length names.now ≤ MAX_ROWS }
     ensures { IfOk result (λ c. c.vector ≡ vector_from ty.Chr (map is.Text names.now)) }
 {
     Column::from_texts(copied_names(alloc, names)?)

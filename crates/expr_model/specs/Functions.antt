@@ -14,6 +14,7 @@ use Rattle.dt_base.specs.declared.cell.ColType.TheVariants as ty
 use Rattle.dt_base.specs.declared.fault.Fault.{Fault}
 use Rattle.dt_base.specs.declared.fault.Code.TheVariants.{E04, E07}
 use Rattle.dt_base.specs.Fault.{fault}
+use Rattle.dt_base.specs.declared.limits.TheConstants.{MAX_ROWS}
 use Rattle.dt_base.specs.declared.warns.Warns.{Warns}
 use Rattle.dt_base.specs.Warns.{no_warns}
 use Rattle.dt_base.specs.declared.operators.UnOp.TheVariants as un
@@ -157,7 +158,7 @@ head_cells t = map (λ c. is.Text c.name) t.columns
 -- the names as a vector, which has at most 16,777,216 cells
 abbrev pub head_vector : PlainTable → Result Vector Fault
 head_vector t =
-    if nat_lt 16777216 (length t.columns) then Err (fault E07 [])
+    if nat_lt MAX_ROWS (length t.columns) then Err (fault E07 [])
     else Ok (record { kind = ty.Chr; cells = head_cells t })
 
 -- the number of rows, the number of columns, the columns' names

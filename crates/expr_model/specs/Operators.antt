@@ -17,6 +17,7 @@ use Rattle.dt_base.specs.declared.cell.ColType.TheVariants as ty
 use Rattle.dt_base.specs.declared.fault.Fault.{Fault}
 use Rattle.dt_base.specs.declared.fault.Code.TheVariants.{E04, E05, E06, E07, E19}
 use Rattle.dt_base.specs.Fault.{fault}
+use Rattle.dt_base.specs.declared.limits.TheConstants.{MAX_ROWS}
 use Rattle.dt_base.specs.declared.operators.Op.{Op}
 use Rattle.dt_base.specs.declared.operators.Op.TheVariants as op
 use Rattle.dt_base.specs.declared.operators.UnOp.{UnOp}
@@ -90,7 +91,7 @@ numbers_between x y = map (towards x y) (range_with_len 0 (distance x y + 1))
 -- NA is no end; and there are at most 16,777,216 numbers
 abbrev pub between : Option ℤ → Option ℤ → Result Vector Fault
 between (Some x) (Some y) =
-    if nat_lt 16777216 (distance x y + 1) then Err (fault E07 [])
+    if nat_lt MAX_ROWS (distance x y + 1) then Err (fault E07 [])
     else Ok (record { kind = ty.Int; cells = numbers_between x y })
 between _ _ = Err (fault E19 (codes ":"))
 

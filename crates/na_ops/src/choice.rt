@@ -1,5 +1,6 @@
 ghost use Rattle.std.specs.Prelude.{◌≡◌, ◌+◌, ◌<◌, ◌≤◌, ◌==◌, length, map, All, IfOk, if◌then◌else◌};
 ghost use Rattle.dt_base.specs.declared.cell.ColType.TheVariants as ty;
+ghost use Rattle.dt_base.specs.declared.limits.TheConstants.{MAX_ROWS};
 ghost use Rattle.dt_model.specs.Coercion.{brought};
 ghost use Rattle.dt_model.specs.Operations.{chosen, picked_by, at_places, goes_with};
 ghost use Rattle.na_vector.specs.Words.{lgl_cell};
@@ -82,7 +83,7 @@ fn picked<A: Word, B: Word, W: Target + Drop>(
     a: &[A],
     b: &[B],
 ) -> Result<Column, AllocError>
-    requires short { length test.now ≤ 16777216 }
+    requires short { length test.now ≤ MAX_ROWS }
     requires left { Serves (length test.now) (length a.now) }
     requires right { Serves (length test.now) (length b.now) }
     ensures { IfOk result (λ c. c.vector ≡ vector_from W.kind (at_places (length test.now)
@@ -99,7 +100,7 @@ fn picked_words<W: Target + Drop>(
     a: Words<'_>,
     b: Words<'_>,
 ) -> Result<Column, AllocError>
-    requires short { length test.now ≤ 16777216 }
+    requires short { length test.now ≤ MAX_ROWS }
     requires left { Serves (length test.now) (length (shown a).cells) }
     requires right { Serves (length test.now) (length (shown b).cells) }
     ensures { IfOk result (λ c. c.vector ≡ vector_from W.kind (at_places (length test.now)
@@ -128,7 +129,7 @@ fn picked_as(
     a: Words<'_>,
     b: Words<'_>,
 ) -> Result<Column, AllocError>
-    requires short { length test.now ≤ 16777216 }
+    requires short { length test.now ≤ MAX_ROWS }
     requires left { Serves (length test.now) (length (shown a).cells) }
     requires right { Serves (length test.now) (length (shown b).cells) }
     ensures { IfOk result (λ c. c.vector ≡ vector_from kind (at_places (length test.now)

@@ -3,6 +3,7 @@ ghost use Rattle.dt_base.specs.declared.cell.ColType.TheVariants as ty;
 ghost use Rattle.std.specs.Cmp.Lexicographic.{slice_cmp};
 ghost use Rattle.std.specs.Ordering.{nat_cmp, int_cmp, is_eq, is_ne, is_lt, is_le, is_gt, is_ge};
 ghost use Rattle.std.specs.declared.cmp.Ordering.{Ordering};
+ghost use Rattle.dt_base.specs.declared.limits.TheConstants.{MAX_ROWS};
 ghost use Rattle.dt_model.specs.Operations.{Gives, number, text, order_of, tested, over_cells, typed};
 ghost use Rattle.na_vector.specs.Words.{int_cell, lgl_cell, text_cell, IsLglWord};
 ghost use Rattle.na_ops.specs.Answers.{Answers, vector_of};
@@ -75,7 +76,7 @@ fn compare_texts_left<K: Comparison>(
     a: &[Option<Text>],
     b: Words<'_>,
 ) -> Result<Column, OpFail>
-    requires left { length a.now ≤ 16777216 }
+    requires left { length a.now ≤ MAX_ROWS }
     requires right { IsShown b }
     ensures { Answers vector_of (typed (Some ty.Lgl)
         (over_cells (λ x y. tested K.test (order_of (slice_cmp nat_cmp) (text x) (text y))) (map text_cell a.now) (shown b.entry).cells)) result }
@@ -97,7 +98,7 @@ fn compare_texts_right<K: Comparison>(
     b: &[Option<Text>],
 ) -> Result<Column, OpFail>
     requires left { IsShown a }
-    requires right { length b.now ≤ 16777216 }
+    requires right { length b.now ≤ MAX_ROWS }
     ensures { Answers vector_of (typed (Some ty.Lgl)
         (over_cells (λ x y. tested K.test (order_of (slice_cmp nat_cmp) (text x) (text y))) (shown a.entry).cells (map text_cell b.now))) result }
 {

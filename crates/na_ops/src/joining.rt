@@ -1,6 +1,6 @@
 ghost use Rattle.std.specs.Prelude.{◌≡◌, ◌+◌, ◌≤◌, ◌++◌, length, map, IfOk};
 ghost use Rattle.dt_model.specs.Coercion.{brought};
-ghost use Rattle.dt_model.specs.Operations.{combined};
+ghost use Rattle.dt_model.specs.Combine.{combined};
 ghost use Rattle.na_ops.specs.Answers.{Answers, vector_of};
 ghost use Rattle.na_words.specs.Shown.{shown, vector_from};
 
@@ -15,7 +15,7 @@ use std::sync::ledger::Ledger;
 
 /// The words of two columns in a row, brought to the type.
 fn joined<W: Target + Drop>(alloc: Global, a: Words<'_>, b: Words<'_>) -> Result<Column, AllocError>
-    requires { length (shown a).cells + length (shown b).cells ≤ 16777216 }
+    requires { length (shown a).cells + length (shown b).cells ≤ MAX_ROWS }
     ensures { IfOk result (λ c. c.vector ≡ vector_from W.kind
         (map (brought W.kind) (shown a.entry).cells ++ map (brought W.kind) (shown b.entry).cells)) }
 {
@@ -27,7 +27,7 @@ fn joined<W: Target + Drop>(alloc: Global, a: Words<'_>, b: Words<'_>) -> Result
 
 /// The words of two columns in a row, brought to a type.
 fn joined_as(alloc: Global, kind: ColType, a: Words<'_>, b: Words<'_>) -> Result<Column, AllocError>
-    requires { length (shown a).cells + length (shown b).cells ≤ 16777216 }
+    requires { length (shown a).cells + length (shown b).cells ≤ MAX_ROWS }
     ensures { IfOk result (λ c. c.vector ≡ vector_from kind
         (map (brought kind) (shown a.entry).cells ++ map (brought kind) (shown b.entry).cells)) }
 {

@@ -2,6 +2,7 @@ ghost use Rattle.std.specs.Prelude.{◌≡◌, ◌+◌, ◌≤◌, length, map, 
 ghost use Rattle.std.specs.HashSet.{contains};
 ghost use Rattle.std.specs.Set.{is_member};
 ghost use Rattle.dt_base.specs.declared.cell.Cell.TheVariants as cell;
+ghost use Rattle.dt_base.specs.declared.limits.TheConstants.{MAX_ROWS};
 ghost use Rattle.dt_model.specs.Coercion.{brought, common};
 ghost use Rattle.dt_model.specs.Operations.{contained, same_cell};
 ghost use Rattle.na_vector.specs.Words.{lgl_cell, IsLglWord};
@@ -87,7 +88,7 @@ fn members_column<A: Word, W: Keyed + Drop>(
     words: Vec<W>,
 ) -> Result<Column, AllocError>
     requires fine { All W.fine words.items }
-    requires short { length a.now ≤ 16777216 }
+    requires short { length a.now ≤ MAX_ROWS }
     ensures { IfOk result (λ c. c.vector ≡ vector_from ColType.Lgl
         (map (among W.kind (map W.cell words.items)) (map A.cell a.now))) }
 {

@@ -1,5 +1,6 @@
 ghost use Rattle.std.specs.Prelude.{◌≡◌, ◌+◌, ◌≤◌, length, map, Some, Ok};
 ghost use Rattle.dt_base.specs.declared.cell.Cell.TheVariants as cell;
+ghost use Rattle.dt_base.specs.declared.limits.TheConstants.{MAX_ROWS};
 ghost use Rattle.dt_model.specs.Coercion.{is_na};
 ghost use Rattle.dt_model.specs.Operations.{unary, negated, inverted, number, typed};
 ghost use Rattle.na_vector.specs.Words.{int_cell, lgl_cell, IsLglWord};
@@ -69,7 +70,7 @@ fn changed<A: Word, W: Target + Drop, C: Change<A, W>>(
     alloc: Global,
     a: &[A],
 ) -> Result<Column, OpFail>
-    requires { length a.now ≤ 16777216 }
+    requires { length a.now ≤ MAX_ROWS }
     ensures { Answers vector_of (typed (Some W.kind) (Ok (map C.table (map A.cell a.now)))) result }
 {
     let mut out = Vec::new(alloc);

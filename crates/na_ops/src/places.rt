@@ -1,5 +1,6 @@
 ghost use Rattle.std.specs.Prelude.{◌≡◌, ◌<◌, ◌≤◌, ◌==◌, ◌++◌, ◌∷◌, [], length, map, All, Some, OnOk, IfOk, IfErr, IfSome, if◌then◌else◌};
 ghost use Rattle.dt_base.specs.declared.cell.Cell.{Cell};
+ghost use Rattle.dt_base.specs.declared.limits.TheConstants.{MAX_ROWS};
 ghost use Rattle.dt_model.specs.Operations.{Outcome, at_place, at_places, settled, joint, over_cells, typed};
 ghost use Rattle.na_ops.specs.Answers.{Answers, IsNoMemory, vector_of};
 ghost use Rattle.na_ops.specs.Words.{IsWord, Serves};
@@ -99,10 +100,10 @@ fn words_over<A: Word, B: Word, W: Word + Drop, K: Kernel<A, B, W>>(
     a: &[A],
     b: &[B],
 ) -> Result<Vec<W>, OpFail>
-    requires left { length a.now ≤ 16777216 }
-    requires right { length b.now ≤ 16777216 }
+    requires left { length a.now ≤ MAX_ROWS }
+    requires right { length b.now ≤ MAX_ROWS }
     ensures fine { IfOk result (λ v. All W.fine v.items) }
-    ensures short { IfOk result (λ v. length v.items ≤ 16777216) }
+    ensures short { IfOk result (λ v. length v.items ≤ MAX_ROWS) }
     ensures value { Answers (λ v. map W.cell v.items)
         (over_cells K.table (map A.cell a.now) (map B.cell b.now)) result }
 {
@@ -122,8 +123,8 @@ pub fn over<A: Word, B: Word, W: Target + Drop, K: Kernel<A, B, W>>(
     a: &[A],
     b: &[B],
 ) -> Result<Column, OpFail>
-    requires left { length a.now ≤ 16777216 }
-    requires right { length b.now ≤ 16777216 }
+    requires left { length a.now ≤ MAX_ROWS }
+    requires right { length b.now ≤ MAX_ROWS }
     ensures { Answers vector_of
         (typed (Some W.kind) (over_cells K.table (map A.cell a.now) (map B.cell b.now))) result }
 {

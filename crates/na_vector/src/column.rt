@@ -1,5 +1,6 @@
 ghost use Rattle.std.specs.Prelude.{◌≡◌, ◌+◌, ◌<◌, ◌≤◌, ◌++◌, ◌∷◌, [], length, map, All, IfOk, OnOk, OnErr, slice_set};
 ghost use Rattle.dt_base.specs.Cell.{seen, IsOfType};
+ghost use Rattle.dt_base.specs.declared.limits.TheConstants.{MAX_ROWS};
 ghost use Rattle.dt_model.specs.Vector.{IsVector, IsWithin, cell_at, gathered};
 ghost use Rattle.na_vector.specs.Words.{int_cell, lgl_cell, text_cell, text_count, IsLglWord, int_vector, lgl_vector, text_vector};
 
@@ -57,7 +58,7 @@ impl Column {
 
     /// The column of integers with these words, in order; -2^63 is NA. It takes no memory.
     pub fn from_ints(words: Vec<i64>) -> Column
-        requires { length words.items ≤ 16777216 }
+        requires { length words.items ≤ MAX_ROWS }
         ensures { result.vector ≡ int_vector words.items }
     {
         Column {
@@ -69,7 +70,7 @@ impl Column {
     /// takes no memory.
     pub fn from_lgls(words: Vec<u8>) -> Column
         requires words { All IsLglWord words.items }
-        requires short { length words.items ≤ 16777216 }
+        requires short { length words.items ≤ MAX_ROWS }
         ensures { result.vector ≡ lgl_vector words.items }
     {
         Column {
@@ -79,7 +80,7 @@ impl Column {
 
     /// The column of texts with these texts, in order; none is NA.
     pub fn from_texts(texts: Vec<Option<Text>>) -> Result<Column, AllocError>
-        requires { length texts.items ≤ 16777216 }
+        requires { length texts.items ≤ MAX_ROWS }
         ensures { IfOk result (λ c. c.vector ≡ text_vector texts.items) }
     {
         Ok(Column {
@@ -185,7 +186,7 @@ impl Column {
     /// and wants memory only where that is 0. A refused cell leaves all cells. It touches none.
     pub fn push(&mut self, v: Cell) -> Result<(), AllocError>
         requires typed { IsOfType self.old.vector.kind v }
-        requires room { length self.old.vector.cells < 16777216 }
+        requires room { length self.old.vector.cells < MAX_ROWS }
         ensures kind { self.new.vector.kind ≡ self.old.vector.kind }
         ensures ok { OnOk result (self.new.vector.cells ≡ self.old.vector.cells ++ v ∷ []) }
         ensures spare { self.old.spare ≤ self.new.spare + 1 }
@@ -222,7 +223,7 @@ impl Column {
         steps: &mut Steps<L>,
     ) -> Result<Column, AllocError>
         requires places { All (IsWithin (length self.now.vector.cells)) rows.now }
-        requires short { length rows.now ≤ 16777216 }
+        requires short { length rows.now ≤ MAX_ROWS }
         ensures ok { IfOk result (λ c. c.vector ≡ gathered self.now.vector rows.now) }
         ensures touches { steps.new ≡ steps.old + length rows.now }
     {
@@ -253,7 +254,7 @@ impl Store {
 
     fn push(&mut self, v: Cell) -> Result<(), AllocError>
         requires typed { IsOfType (seen_of self.old).vector.kind v }
-        requires room { length (seen_of self.old).vector.cells < 16777216 }
+        requires room { length (seen_of self.old).vector.cells < MAX_ROWS }
         requires stored { IsStored self.old }
         ensures kept { IsStored self.new }
         ensures kind { (seen_of self.new).vector.kind ≡ (seen_of self.old).vector.kind }

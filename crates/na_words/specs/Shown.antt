@@ -5,6 +5,7 @@
 use Rattle.std.specs.Prelude.{◌≤◌, List, All, length}
 use Rattle.dt_base.specs.declared.cell.Cell.{Cell}
 use Rattle.dt_base.specs.declared.cell.ColType.{ColType}
+use Rattle.dt_base.specs.declared.limits.TheConstants.{MAX_ROWS}
 use Rattle.dt_model.specs.Vector.{Vector}
 use Rattle.na_vector.specs.Words.{int_vector, lgl_vector, text_vector, IsLglWord}
 use Rattle.na_words.specs.declared.words.Words.{Words}
@@ -22,6 +23,6 @@ shown (Chr texts) = text_vector texts.now
 
 -- logical words are 0, 1 or 2, and there are at most 16,777,216 words
 abbrev pub IsShown : Words → Type 0
-IsShown (Lgl words) = All IsLglWord words.now × (length words.now ≤ 16777216)
-IsShown (Int words) = length words.now ≤ 16777216
-IsShown (Chr texts) = length texts.now ≤ 16777216
+IsShown (Lgl words) = All IsLglWord words.now × (length words.now ≤ MAX_ROWS)
+IsShown (Int words) = length words.now ≤ MAX_ROWS
+IsShown (Chr texts) = length texts.now ≤ MAX_ROWS

@@ -2,6 +2,7 @@ ghost use Rattle.std.specs.Prelude.{◌≡◌, ◌+◌, ◌<◌, ◌≤◌, ◌+
 ghost use Rattle.std.specs.List.{list_any};
 ghost use Rattle.dt_base.specs.declared.cell.Cell.{Cell};
 ghost use Rattle.dt_base.specs.declared.cell.ColType.TheVariants as ty;
+ghost use Rattle.dt_base.specs.declared.limits.TheConstants.{MAX_ROWS};
 ghost use Rattle.dt_model.specs.Coercion.{brought, becomes_true, becomes_na, coerced, coercion_warns};
 ghost use Rattle.dt_model.specs.Vector.{cell_at};
 ghost use Rattle.na_vector.specs.Words.{int_cell, text_cell};
@@ -81,7 +82,7 @@ pub fn brought_words<W: Target + Drop>(
     requires { IsShown words }
     ensures cells { IfOk result (λ v. map W.cell v.items ≡ map (brought W.kind) (shown words.entry).cells) }
     ensures fine { IfOk result (λ v. All W.fine v.items) }
-    ensures short { IfOk result (λ v. length v.items ≤ 16777216) }
+    ensures short { IfOk result (λ v. length v.items ≤ MAX_ROWS) }
 {
     let mut out = Vec::new(alloc);
     append_words::<W>(alloc, &mut out, words)?;

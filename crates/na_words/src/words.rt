@@ -3,6 +3,7 @@ ghost use Rattle.dt_base.specs.declared.cell.Cell.{Cell};
 ghost use Rattle.dt_base.specs.declared.cell.Cell.TheVariants as is;
 ghost use Rattle.dt_base.specs.declared.cell.ColType.{ColType as Kind};
 ghost use Rattle.dt_base.specs.declared.cell.ColType.TheVariants as ty;
+ghost use Rattle.dt_base.specs.declared.limits.TheConstants.{MAX_ROWS};
 ghost use Rattle.dt_model.specs.Coercion.{is_na, to_lgl, to_int, to_text, brought};
 ghost use Rattle.dt_model.specs.Operations.{number};
 ghost use Rattle.na_vector.specs.Words.{int_cell, lgl_cell, text_cell, IsLglWord};
@@ -86,7 +87,7 @@ pub trait Target: Word {
     /// The column of these words.
     fn column(words: Vec<Self>) -> Result<Column, AllocError>
         requires fine { All Self.fine words.items }
-        requires short { length words.items ≤ 16777216 }
+        requires short { length words.items ≤ MAX_ROWS }
         ensures { IfOk result (λ c. c.vector ≡ vector_from Self.kind (map Self.cell words.items)) };
 }
 
@@ -224,7 +225,7 @@ impl Target for u8 {
 
     fn column(words: Vec<u8>) -> Result<Column, AllocError>
         requires fine { All IsLglWord words.items }
-        requires short { length words.items ≤ 16777216 }
+        requires short { length words.items ≤ MAX_ROWS }
         ensures { IfOk result (λ c. c.vector ≡ vector_from ty.Lgl (map lgl_cell words.items)) }
     {
         Ok(Column::from_lgls(words))
@@ -242,7 +243,7 @@ impl Target for i64 {
 
     fn column(words: Vec<i64>) -> Result<Column, AllocError>
         requires fine { All (λ n. Unit {0}) words.items }
-        requires short { length words.items ≤ 16777216 }
+        requires short { length words.items ≤ MAX_ROWS }
         ensures { IfOk result (λ c. c.vector ≡ vector_from ty.Int (map int_cell words.items)) }
     {
         Ok(Column::from_ints(words))
@@ -260,7 +261,7 @@ impl Target for Option<Text> {
 
     fn column(words: Vec<Option<Text>>) -> Result<Column, AllocError>
         requires fine { All (λ t. Unit {0}) words.items }
-        requires short { length words.items ≤ 16777216 }
+        requires short { length words.items ≤ MAX_ROWS }
         ensures { IfOk result (λ c. c.vector ≡ vector_from ty.Chr (map text_cell words.items)) }
     {
         Column::from_texts(words)

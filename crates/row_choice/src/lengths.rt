@@ -1,5 +1,6 @@
 ghost use Rattle.std.specs.Prelude.{◌≡◌, ◌≤◌, ◌+◌, ◌⊎◌, ◌==◌, ◌||◌, length, map, replicate, Some, All, IfOk, IfErr};
 ghost use Rattle.arg_bind.specs.Answers.{Answers, IsOwn};
+ghost use Rattle.dt_base.specs.declared.limits.TheConstants.{MAX_ROWS};
 ghost use Rattle.dt_model.specs.Vector.{cell_at};
 ghost use Rattle.expr_model.specs.Lengths.{common_length, fitting, longest, repeated};
 ghost use Rattle.na_words.specs.Shown.{vector_from};
@@ -16,7 +17,7 @@ use vec_funcs::Valued;
 /// The greatest length; of nothing 0.
 fn longest(values: &[Valued]) -> usize
     ensures longest { result ≡ longest (map vector_in values.now) }
-    ensures short { result ≤ 16777216 }
+    ensures short { result ≤ MAX_ROWS }
 {
     let mut n = 0;
     for v in values {
@@ -56,7 +57,7 @@ fn fitting(alloc: Global, n: usize, values: &[Valued]) -> Result<usize, EvalFail
 pub fn common_length(alloc: Global, values: &[Valued]) -> Result<usize, EvalFail>
     ensures answer { Answers (common_length (map vector_in values.now)) result }
     ensures fitting { IfOk result (λ n. All (λ v. (length v.column.vector.cells ≡ 1) ⊎ (length v.column.vector.cells ≡ n)) values.now) }
-    ensures short { IfOk result (λ n. n ≤ 16777216) }
+    ensures short { IfOk result (λ n. n ≤ MAX_ROWS) }
     ensures own { IfErr result IsOwn }
 {
     fitting(alloc, longest(values), values)
@@ -78,7 +79,7 @@ fn first_cells<L: Ledger>(
     steps: &mut Steps<L>,
 ) -> Result<Column, AllocError>
     requires one { length column.now.vector.cells ≡ 1 }
-    requires short { n ≤ 16777216 }
+    requires short { n ≤ MAX_ROWS }
     ensures cells { IfOk result (λ c. c.vector ≡
         vector_from column.now.vector.kind (replicate n (cell_at column.now.vector.cells 0))) }
     ensures touches { steps.new ≤ steps.old + n }
@@ -99,7 +100,7 @@ pub fn repeated<L: Ledger>(
     steps: &mut Steps<L>,
 ) -> Result<Column, AllocError>
     requires fits { (length column.vector.cells ≡ 1) ⊎ (length column.vector.cells ≡ n) }
-    requires short { n ≤ 16777216 }
+    requires short { n ≤ MAX_ROWS }
     ensures vector { IfOk result (λ c. c.vector ≡ repeated n column.vector) }
     ensures rows { IfOk result (λ c. length c.vector.cells ≡ n) }
     ensures touches { steps.new ≤ steps.old + n }

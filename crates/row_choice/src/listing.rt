@@ -1,4 +1,5 @@
 ghost use Rattle.std.specs.Prelude.{◌≡◌, ◌≤◌, ◌<◌, ◌++◌, ◌∷◌, [], Some, All, length, IfOk, OnOk, if◌then◌else◌};
+ghost use Rattle.dt_base.specs.declared.limits.TheConstants.{MAX_ROWS};
 ghost use Rattle.dt_model.specs.Vector.{IsWithin};
 ghost use Rattle.expr_model.specs.Rows.{all_rows};
 
@@ -6,7 +7,7 @@ use std::alloc::{AllocError, Global};
 
 /// Adds a row, if it is chosen.
 pub fn push_if(out: &mut Vec<Option<u32>>, p: usize, chosen: bool) -> Result<(), AllocError>
-    requires { p < 16777216 }
+    requires { p < MAX_ROWS }
     ensures { OnOk result (out.new.items ≡ out.old.items ++ (if chosen then Some p ∷ [] else [])) }
 {
     if chosen {
@@ -20,7 +21,7 @@ pub fn push_if(out: &mut Vec<Option<u32>>, p: usize, chosen: bool) -> Result<(),
 /// From the manual's page data.table, argument i.
 #[tactic(auto, using(crate::proofs::Ranges::all_more, crate::proofs::Ranges::all_within, crate::proofs::Ranges::all_count))]
 pub fn all_rows(alloc: Global, rows: usize) -> Result<Vec<Option<u32>>, AllocError>
-    requires { rows ≤ 16777216 }
+    requires { rows ≤ MAX_ROWS }
     ensures rows { IfOk result (λ v. v.items ≡ all_rows rows) }
     ensures within { IfOk result (λ v. All (IsWithin rows) v.items) }
     ensures count { IfOk result (λ v. length v.items ≡ rows) }

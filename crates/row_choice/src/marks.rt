@@ -1,5 +1,6 @@
 ghost use Rattle.std.specs.Prelude.{ℕ, ◌≡◌, ◌<◌, ◌≤◌, ◌==◌, ◌||◌, false, not, length, map, slice_index_or, IfOk};
 ghost use Rattle.std.specs.List.{list_any};
+ghost use Rattle.dt_base.specs.declared.limits.TheConstants.{MAX_ROWS};
 ghost use Rattle.expr_model.specs.Rows.{leaves_out, left_rows, rows_where};
 ghost use Rattle.na_vector.specs.Words.{int_cell};
 
@@ -43,7 +44,7 @@ fn mark_all(marks: &mut [bool], words: &[i64])
 
 /// The rows without a mark, in order.
 fn unmarked(alloc: Global, marks: &[bool]) -> Result<Vec<Option<u32>>, AllocError>
-    requires { length marks.now ≤ 16777216 }
+    requires { length marks.now ≤ MAX_ROWS }
     ensures { IfOk result (λ v. v.items ≡
         rows_where (λ p. not (slice_index_or marks.now p false)) (length marks.now)) }
 {
@@ -56,7 +57,7 @@ fn unmarked(alloc: Global, marks: &[bool]) -> Result<Vec<Option<u32>>, AllocErro
 
 /// All rows in order but those that a word leaves out. A mark for each row keeps this linear.
 pub fn left_rows(alloc: Global, rows: usize, words: &[i64]) -> Result<Vec<Option<u32>>, AllocError>
-    requires { rows ≤ 16777216 }
+    requires { rows ≤ MAX_ROWS }
     ensures { IfOk result (λ v. v.items ≡ left_rows rows (map int_cell words.now)) }
 {
     let mut marks = vec![in alloc; false; rows]?;

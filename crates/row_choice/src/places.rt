@@ -1,6 +1,7 @@
 ghost use Rattle.std.specs.Prelude.{◌≡◌, ◌≤◌, ◌++◌, nat_lt, Some, None, map, IfOk, IfErr, OnOk, if◌then◌else◌};
 ghost use Rattle.std.specs.List.{list_any, list_all};
 ghost use Rattle.arg_bind.specs.Answers.{AnswersAs, IsOwn};
+ghost use Rattle.dt_base.specs.declared.limits.TheConstants.{MAX_ROWS};
 ghost use Rattle.expr_model.specs.Rows.{by_place, is_below_or_zero, is_below_zero, named_row, named_rows};
 ghost use Rattle.na_vector.specs.Words.{int_cell};
 
@@ -36,7 +37,7 @@ fn are_below_or_zero(words: &[i64]) -> bool
 
 /// The row, or none past the end.
 fn row_within(rows: usize, p: u64) -> Option<u32>
-    requires { rows ≤ 16777216 }
+    requires { rows ≤ MAX_ROWS }
     ensures { result ≡ (if nat_lt p rows then Some p else None) }
 {
     if p < rows as u64 {
@@ -48,7 +49,7 @@ fn row_within(rows: usize, p: u64) -> Option<u32>
 
 /// Adds what a word names: nothing, a row, or a row of NA.
 fn push_named(out: &mut Vec<Option<u32>>, rows: usize, word: i64) -> Result<(), AllocError>
-    requires { rows ≤ 16777216 }
+    requires { rows ≤ MAX_ROWS }
     ensures { OnOk result (out.new.items ≡ out.old.items ++ named_row rows (int_cell word)) }
 {
     match place_of(word) {
@@ -61,7 +62,7 @@ fn push_named(out: &mut Vec<Option<u32>>, rows: usize, word: i64) -> Result<(), 
 
 /// The rows that the words name, in their order.
 fn named_rows(alloc: Global, rows: usize, words: &[i64]) -> Result<Vec<Option<u32>>, AllocError>
-    requires { rows ≤ 16777216 }
+    requires { rows ≤ MAX_ROWS }
     ensures { IfOk result (λ v. v.items ≡ named_rows rows (map int_cell words.now)) }
 {
     let mut out = Vec::with_capacity(alloc, words.len())?;
@@ -73,7 +74,7 @@ fn named_rows(alloc: Global, rows: usize, words: &[i64]) -> Result<Vec<Option<u3
 
 /// The rows that integers choose: those that they name, or all but those that negative ones leave out.
 pub fn by_place(alloc: Global, rows: usize, words: &[i64]) -> Result<Vec<Option<u32>>, EvalFail>
-    requires { rows ≤ 16777216 }
+    requires { rows ≤ MAX_ROWS }
     ensures answer { AnswersAs (λ v. v.items) (by_place rows (map int_cell words.now)) result }
     ensures own { IfErr result IsOwn }
 {

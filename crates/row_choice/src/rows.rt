@@ -1,5 +1,6 @@
 ghost use Rattle.std.specs.Prelude.{◌≡◌, ◌≤◌, ◌+◌, All, length, map, IfOk, IfErr};
 ghost use Rattle.arg_bind.specs.Answers.{AnswersAs, IsOwn};
+ghost use Rattle.dt_base.specs.declared.limits.TheConstants.{MAX_ROWS};
 ghost use Rattle.dt_model.specs.Vector.{IsWithin};
 ghost use Rattle.expr_model.specs.Rows.{chosen};
 ghost use Rattle.na_words.specs.Shown.{IsShown, shown};
@@ -16,7 +17,7 @@ use std::sync::ledger::Ledger;
 
 /// The rows that the words of an i choose.
 fn chosen_by(alloc: Global, words: Words<'_>, rows: usize) -> Result<Vec<Option<u32>>, EvalFail>
-    requires { rows ≤ 16777216 }
+    requires { rows ≤ MAX_ROWS }
     ensures answer { AnswersAs (λ v. v.items) (chosen rows (shown words.entry)) result }
     ensures own { IfErr result IsOwn }
 {
@@ -47,10 +48,10 @@ pub fn chosen_rows<L: Ledger>(
     rows: usize,
     steps: &mut Steps<L>,
 ) -> Result<Vec<Option<u32>>, EvalFail>
-    requires { rows ≤ 16777216 }
+    requires { rows ≤ MAX_ROWS }
     ensures answer { AnswersAs (λ v. v.items) (chosen rows i.now.vector) result }
     ensures within { IfOk result (λ v. All (IsWithin rows) v.items) }
-    ensures short { IfOk result (λ v. length v.items ≤ 16777216) }
+    ensures short { IfOk result (λ v. length v.items ≤ MAX_ROWS) }
     ensures own { IfErr result IsOwn }
     ensures touches { steps.new ≡ steps.old + length i.now.vector.cells }
 {

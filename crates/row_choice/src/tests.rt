@@ -1,4 +1,5 @@
 ghost use Rattle.std.specs.Prelude.{◌≡◌, ◌<◌, ◌≤◌, IfOk, length};
+ghost use Rattle.dt_base.specs.declared.limits.TheConstants.{MAX_ROWS};
 
 use super::*;
 use arg_bind::EvalFail;
@@ -87,7 +88,7 @@ fn all<R: Abort>(rt: &R, alloc: Global) -> Result<(), Fail> {
 }
 
 fn valued(words: Vec<i64>) -> Valued
-    requires { length words.items ≤ 16777216 }
+    requires { length words.items ≤ MAX_ROWS }
 {
     Valued {
         column: Column::from_ints(words),

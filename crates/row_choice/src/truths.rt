@@ -1,5 +1,6 @@
 ghost use Rattle.std.specs.Prelude.{◌≡◌, ◌≤◌, map, length, IfOk, IfErr};
 ghost use Rattle.arg_bind.specs.Answers.{AnswersAs, IsOwn};
+ghost use Rattle.dt_base.specs.declared.limits.TheConstants.{MAX_ROWS};
 ghost use Rattle.expr_model.specs.Rows.{all_or_none, by_truth, is_true, true_rows};
 ghost use Rattle.na_vector.specs.Words.{lgl_cell};
 
@@ -17,7 +18,7 @@ fn is_true(word: u8) -> bool
 
 /// The rows whose word is TRUE, in order.
 fn true_rows(alloc: Global, words: &[u8]) -> Result<Vec<Option<u32>>, AllocError>
-    requires { length words.now ≤ 16777216 }
+    requires { length words.now ≤ MAX_ROWS }
     ensures { IfOk result (λ v. v.items ≡ true_rows (map lgl_cell words.now)) }
 {
     let mut out = Vec::new(alloc);
@@ -29,7 +30,7 @@ fn true_rows(alloc: Global, words: &[u8]) -> Result<Vec<Option<u32>>, AllocError
 
 /// All rows or none.
 fn all_or_none(alloc: Global, rows: usize, word: u8) -> Result<Vec<Option<u32>>, AllocError>
-    requires { rows ≤ 16777216 }
+    requires { rows ≤ MAX_ROWS }
     ensures { IfOk result (λ v. v.items ≡ all_or_none rows (lgl_cell word)) }
 {
     if is_true(word) {
@@ -41,7 +42,7 @@ fn all_or_none(alloc: Global, rows: usize, word: u8) -> Result<Vec<Option<u32>>,
 
 /// The rows that logicals choose: one for each row, or one for all.
 pub fn by_truth(alloc: Global, rows: usize, words: &[u8]) -> Result<Vec<Option<u32>>, EvalFail>
-    requires { rows ≤ 16777216 }
+    requires { rows ≤ MAX_ROWS }
     ensures answer { AnswersAs (λ v. v.items) (by_truth rows (map lgl_cell words.now)) result }
     ensures own { IfErr result IsOwn }
 {

@@ -16,9 +16,10 @@ use Rattle.std.specs.List.{list_all, range_with_len, concat}
 use Rattle.std.specs.Str.{is_utf8}
 use Rattle.csv.specs.Reading.{records, default_config, strip_bom}
 use Rattle.csv.specs.Writing.{row_text, default_writer}
+use Rattle.dt_base.specs.declared.limits.TheConstants.{MAX_COLUMNS, MAX_ROWS}
 use Rattle.dt_base.specs.declared.warns.Warns.{Warns}
 use Rattle.dt_base.specs.Warns.{no_warns}
-use Rattle.dt_model.specs.Table.{PlainTable, rows_of, heads_of}
+use Rattle.dt_model.specs.Table.{PlainTable, no_table, table_of}
 use Rattle.dt_model.specs.Vector.{Vector}
 use Rattle.run_model.specs.CsvCells.{fields_vector, cell_text}
 use Rattle.run_model.specs.CsvNames.{column_names, name_warns}
@@ -38,14 +39,14 @@ pub data FileFault : Type 0 where
 -- the header: the number of columns comes before UTF-8
 abbrev pub header_fault : Record → Option FileFault
 header_fault header =
-    if nat_lt 4096 (length header) then Some TooManyColumns
+    if nat_lt MAX_COLUMNS (length header) then Some TooManyColumns
     else (if not (list_all is_utf8 header) then Some (NotUtf8 1) else None)
 
 -- A record below the header, with `before` of them before it: the number of rows comes first, then
 -- the number of fields, then UTF-8.
 abbrev pub row_fault : ℕ → ℕ → Record → Option FileFault
 row_fault width before row =
-    if nat_le 16777216 before then Some TooManyRows
+    if nat_le MAX_ROWS before then Some TooManyRows
     else (if not (length row == width) then Some (Ragged (before + 2))
     else (if not (list_all is_utf8 row) then Some (NotUtf8 (before + 2)) else None))
 
@@ -67,20 +68,9 @@ fields_at c rows = map (λ row. slice_index_or row c []) rows
 abbrev pub records_columns : Record → List Record → List Vector
 records_columns header rows = map (λ c. fields_vector (fields_at c rows)) (range_with_len 0 (length header))
 
--- the table of a file without a fault: new, so without key and indices, and with 1,024 slots more
--- than columns
+-- the table of a file without a fault
 abbrev pub records_table : Record → List Record → PlainTable
-records_table header rows = record {
-  columns = heads_of (column_names header) (records_columns header rows);
-  rows = rows_of (length rows) (records_columns header rows);
-  key = [];
-  indices = [];
-  slots = length header + 1024;
-}
-
--- the table without columns
-abbrev pub no_table : PlainTable
-no_table = record { columns = []; rows = []; key = []; indices = []; slots = 1024 }
+records_table header rows = table_of (column_names header) (length rows) (records_columns header rows)
 
 -- a fault, or else the table
 abbrev pub unless_fault : Option FileFault → PlainTable × Warns → Result (PlainTable × Warns) FileFault

@@ -22,6 +22,7 @@ use Rattle.dt_base.specs.declared.cell.Cell.{Cell}
 use Rattle.dt_base.specs.declared.cell.Cell.TheVariants.{Na, Lgl, Int, Text}
 use Rattle.dt_base.specs.declared.cell.ColType.{ColType}
 use Rattle.dt_base.specs.declared.cell.ColType.TheVariants as ty
+use Rattle.dt_model.specs.Spelling.{truth_text}
 use Rattle.dt_model.specs.Vector.{cell_at}
 use Rattle.dt_model.specs.Table.{ColumnHead, column_of}
 
@@ -60,15 +61,10 @@ na_text ty.Lgl = codes "NA"
 na_text ty.Int = codes "NA"
 na_text ty.Chr = codes "<NA>"
 
--- a logical
-abbrev pub logical_text : Bool → List ℕ
-logical_text true = codes "TRUE"
-logical_text false = codes "FALSE"
-
 -- a cell of a column of this type in a table
 abbrev pub cell_text : ColType → Cell → List ℕ
 cell_text kind Na = na_text kind
-cell_text kind (Lgl b) = logical_text b
+cell_text kind (Lgl b) = truth_text b
 cell_text kind (Int n) = signed_decimal n
 cell_text kind (Text t) = name_text t
 
@@ -153,7 +149,7 @@ vector_byte b =
 -- a cell of a vector: a text in quotes, NA as NA, all else as in a table
 abbrev pub element : Cell → List ℕ
 element Na = codes "NA"
-element (Lgl b) = logical_text b
+element (Lgl b) = truth_text b
 element (Int n) = signed_decimal n
 element (Text t) = codes "\"" ++ flat_map vector_byte t ++ codes "\""
 

@@ -32,7 +32,8 @@ use Rattle.session_model.specs.Binding.{ArgNames, bound, places, place_of}
 use Rattle.session_model.specs.Form.{Form, Literal, name_in}
 use Rattle.session_model.specs.Meanings.{Meaning, ArgMeaning, TailMeaning}
 use Rattle.vector_model.specs.Then.{then_do}
-use Rattle.vector_model.specs.Combine.{common_of, joined}
+use Rattle.dt_model.specs.Combine.{common_of}
+use Rattle.vector_model.specs.Combine.{joined}
 use Rattle.vector_model.specs.Functions.{Valued}
 use Rattle.expr_model.specs.Functions.{with_warns, type_of, value_of, description_type, description_of}
 use Rattle.expr_model.specs.Operators.{tail_type, tail_value, sign_value}

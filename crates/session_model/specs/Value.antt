@@ -3,7 +3,7 @@
 --   Given               a value and its warnings
 --   Scene               the files and the state that a statement meets
 --   bound_value q b     what the name q gives that is bound to b
---   limit_fault n w     the fault of a table of n rows and w columns that passes a limit
+--   limit_fault l       the fault of a new table that passes the limit l
 --   new_table names n vs    the new table of these columns of n cells, or its fault
 --   file_table files q  what `fread` gives for the file q
 --   copied t            what `copy` gives
@@ -17,9 +17,11 @@ use Rattle.dt_base.specs.declared.fault.Fault.{Fault}
 use Rattle.dt_base.specs.declared.fault.Code.{Code}
 use Rattle.dt_base.specs.declared.fault.Code.TheVariants.{E02, E04, E07, E08, E09, E12, E15, E16, E17, E18, E19}
 use Rattle.dt_base.specs.Fault.{fault}
+use Rattle.dt_base.specs.declared.limits.TheConstants.{MAX_CELLS, MAX_COLUMNS, MAX_FILE_BYTES, MAX_ROWS, SPARE_COLUMNS}
 use Rattle.dt_base.specs.declared.warns.Warns.{Warns}
 use Rattle.dt_base.specs.Warns.{no_warns}
-use Rattle.dt_model.specs.Table.{PlainTable, heads_of, rows_of, first_repeated, name_at}
+use Rattle.dt_model.specs.Table.{PlainTable, TableLimit, Rows, Columns, first_repeated, name_at, no_table, past_limit, table_of}
+use Rattle.dt_model.specs.Table as limit
 use Rattle.dt_model.specs.Vector.{Vector}
 use Rattle.dt_model.specs.State.{State, Bound}
 use Rattle.dt_model.specs.State.{Table as NumberedTable, Vector as BoundVector}
@@ -52,11 +54,7 @@ pub record Scene : Type 0 where
 abbrev pub gives_value : Value → Result Given Fault
 gives_value v = Ok (record { value = v; warns = no_warns })
 
--- ---- Literals and names
-
--- a vector of one cell
-abbrev pub one_cell : ColType → Cell → Vector
-one_cell kind cell = record { kind = kind; cells = cell ∷ [] }
+-- ---- Names
 
 -- what a name is bound to; a name that is bound to nothing is a fault
 abbrev pub bound_value : List ℕ → Option Bound → Result Given Fault
@@ -70,32 +68,21 @@ bound_value name (Some (BoundVector v)) = gives_value (Cells v)
 abbrev pub number_fault : Code → ℕ → Fault
 number_fault code n = record { code = code; what = []; n = n; m = 0 }
 
--- a table past a limit: of rows, then of cells, then of columns when it is made
-abbrev pub limit_fault : ℕ → ℕ → Option Fault
-limit_fault rows width =
-    if nat_lt 16777216 rows then Some (fault E07 [])
-    else (if nat_lt 67108864 (rows * width) then Some (fault E08 [])
-    else (if nat_lt 4096 width then Some (number_fault E09 4096) else None))
+-- the fault of a limit that a new table passes
+abbrev pub limit_fault : TableLimit → Fault
+limit_fault Rows = fault E07 []
+limit_fault limit.Cells = fault E08 []
+limit_fault Columns = number_fault E09 MAX_COLUMNS
 
--- the columns as a new table: no key, no index, and 1,024 slots more than columns
-abbrev pub table_of : List (List ℕ) → ℕ → List Vector → PlainTable
-table_of names rows vectors = record {
-  columns = heads_of names vectors;
-  rows = rows_of rows vectors;
-  key = [];
-  indices = [];
-  slots = length vectors + 1024;
-}
-
--- a table, unless there is a fault
-abbrev pub unless : Option Fault → PlainTable → Result PlainTable Fault
-unless (Some f) t = Err f
-unless None t = Ok t
+-- a table, unless it passes a limit
+abbrev pub unless_past : Option TableLimit → PlainTable → Result PlainTable Fault
+unless_past (Some l) t = Err (limit_fault l)
+unless_past None t = Ok t
 
 -- the first name that repeats an earlier one comes before the limits
 abbrev pub checked_table : Option ℕ → List (List ℕ) → ℕ → List Vector → Result PlainTable Fault
 checked_table (Some c) names rows vectors = Err (fault E12 (name_at names c))
-checked_table None names rows vectors = unless (limit_fault rows (length vectors)) (table_of names rows vectors)
+checked_table None names rows vectors = unless_past (past_limit rows (length vectors)) (table_of names rows vectors)
 
 abbrev pub new_table : List (List ℕ) → ℕ → List Vector → Result PlainTable Fault
 new_table names rows vectors = checked_table (first_repeated names) names rows vectors
@@ -116,7 +103,7 @@ file_bytes limit file (Some bytes) =
 abbrev pub record_fault : FileFault → Fault
 record_fault (Ragged at) = number_fault E17 at
 record_fault (NotUtf8 at) = number_fault E18 at
-record_fault TooManyColumns = number_fault E09 4096
+record_fault TooManyColumns = number_fault E09 MAX_COLUMNS
 record_fault TooManyRows = fault E07 []
 
 -- a file's table and its warnings, or its fault
@@ -126,18 +113,18 @@ records_given (Err f) = Err (record_fault f)
 
 -- the table of a file
 abbrev pub file_table : Look → List ℕ → Result Given Fault
-file_table files file = then_do (file_bytes 67108864 file (files file)) (λ bytes. records_given (read_csv bytes))
+file_table files file = then_do (file_bytes MAX_FILE_BYTES file (files file)) (λ bytes. records_given (read_csv bytes))
 
 -- ---- `copy`
 
 -- a table that has its own slots: 1,024 more than columns
 abbrev pub copied : PlainTable → PlainTable
-copied t = record t { slots = length t.columns + 1024 }
+copied t = record t { slots = length t.columns + SPARE_COLUMNS }
 
 -- the table of a number; each number of a state's names has one
 abbrev pub numbered_table : State → ℕ → PlainTable
 numbered_table s n =
-    elim (finite.get s.tables n) [ Some t ↦ t | None ↦ record { columns = []; rows = []; key = []; indices = []; slots = 1024 } ]
+    elim (finite.get s.tables n) [ Some t ↦ t | None ↦ no_table ]
 
 -- the table of a value, where a table is wanted
 abbrev pub wanted_table : State → Value → Result PlainTable Fault

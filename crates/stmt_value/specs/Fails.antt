@@ -10,6 +10,7 @@ use Rattle.dt_base.specs.Fault.{fault}
 use Rattle.dt_base.specs.declared.fault.Code.TheVariants.{E07, E09, E17, E18}
 use Rattle.csv_edge.specs.declared.fail.CsvFail.{CsvFail}
 use Rattle.csv_edge.specs.declared.fail.CsvFail.TheVariants as file
+use Rattle.dt_base.specs.declared.limits.TheConstants.{MAX_COLUMNS}
 use Rattle.session_model.specs.Value.{number_fault}
 use Rattle.stmt_value.specs.declared.fail.ValueFail.{ValueFail}
 use Rattle.stmt_value.specs.declared.fail.ValueFail.TheVariants.{Stop, NoMemory}
@@ -28,6 +29,6 @@ IsNoMemory (eval.NoMemory e) = Unit {0}
 abbrev pub IsFileStop : CsvFail → EvalFail → Type 0
 IsFileStop (file.Ragged at) r = IsStop (number_fault E17 at) r
 IsFileStop (file.NotUtf8 at) r = IsStop (number_fault E18 at) r
-IsFileStop file.TooManyColumns r = IsStop (number_fault E09 4096) r
+IsFileStop file.TooManyColumns r = IsStop (number_fault E09 MAX_COLUMNS) r
 IsFileStop file.TooManyRows r = IsStop (fault E07 []) r
 IsFileStop (file.NoMemory e) r = IsNoMemory r

@@ -21,7 +21,7 @@ use std::sync::ledger::Ledger;
 
 /// The fault of a file that is longer than the limit.
 fn too_long(alloc: Global, name: &str) -> ValueFail
-    ensures { IsStop (record { code = E16; what = name.now; n = 67108864; m = 0 }) result }
+    ensures { IsStop (record { code = E16; what = name.now; n = MAX_FILE_BYTES; m = 0 }) result }
 {
     match Text::make(alloc, name) {
         Ok(what) => ValueFail::Stop(Fault {
@@ -36,8 +36,8 @@ fn too_long(alloc: Global, name: &str) -> ValueFail
 
 /// The bytes of a file, at most 67,108,864. An absent file is E15, and a longer one E16.
 fn read_file<F: Files>(alloc: Global, files: &mut F, name: &str) -> Result<Vec<u8>, ValueFail>
-    ensures told { IsSome (F.held files.old) → Gives (λ v. v.items) (file_bytes 67108864 name.now (look (F.held files.old) name.now)) result }
-    ensures short { IfOk result (λ v. length v.items ≤ 67108864) }
+    ensures told { IsSome (F.held files.old) → Gives (λ v. v.items) (file_bytes MAX_FILE_BYTES name.now (look (F.held files.old) name.now)) result }
+    ensures short { IfOk result (λ v. length v.items ≤ MAX_FILE_BYTES) }
     ensures held { F.held files.new ≡ F.held files.old }
     ensures failed { IsErrOf result ValueFail.ReadFault → Rose (F.read_faults files.old) (F.read_faults files.new) }
     ensures read_faults { F.read_faults files.old ≤ F.read_faults files.new }
@@ -75,7 +75,7 @@ fn records<L: Ledger>(
     bytes: &[u8],
     steps: &mut Steps<L>,
 ) -> Result<(Table, Warns), EvalFail>
-    requires { length bytes.now ≤ 67108864 }
+    requires { length bytes.now ≤ MAX_FILE_BYTES }
     ensures answer { AnswersAs file_given (records_given (read_csv bytes.now)) result }
     ensures own { IfErr result IsOwn }
 {

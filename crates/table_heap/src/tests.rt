@@ -1,4 +1,5 @@
 ghost use Rattle.std.specs.Prelude.{◌≡◌, ◌≤◌, length};
+ghost use Rattle.dt_base.specs.declared.limits.TheConstants.{MAX_ROWS};
 ghost use Rattle.dt_model.specs.State.{with_table};
 ghost use Rattle.dt_table.specs.Plain.{plain};
 ghost use Rattle.table_heap.specs.Seen.{IsAt};
@@ -14,7 +15,7 @@ use std::test::Fail;
 
 /// The table of one column with these integers.
 fn table_of(alloc: Global, words: &[i64]) -> Result<Table, MakeFail>
-    requires { length words.now ≤ 16777216 }
+    requires { length words.now ≤ MAX_ROWS }
 {
     let mut frame = Frame::new(alloc);
     frame.push_col(Column::from_ints(Vec::from_slice(alloc, words)?))?;
@@ -24,7 +25,7 @@ fn table_of(alloc: Global, words: &[i64]) -> Result<Table, MakeFail>
 
 /// Binds the name to a new table with these integers.
 fn bind(heap: &mut Heap, alloc: Global, name: &str, words: &[i64]) -> Result<Id, MakeFail>
-    requires { length words.now ≤ 16777216 }
+    requires { length words.now ≤ MAX_ROWS }
 {
     let name = Text::make(alloc, name)?;
     let table = table_of(alloc, words)?;

@@ -1,5 +1,6 @@
 ghost use Rattle.std.specs.Prelude.{◌≡◌, ◌+◌, ◌-◌, ◌<◌, ◌≤◌, ◌∷◌, [], pos, min, length, take, drop, IfOk, IfErr};
 ghost use Rattle.dt_base.specs.declared.cell.Cell.TheVariants as is;
+ghost use Rattle.dt_base.specs.declared.limits.TheConstants.{MAX_ROWS};
 ghost use Rattle.dt_model.specs.Vector.{cell_at};
 ghost use Rattle.vector_model.specs.Functions.{first_value, last_value, length_value};
 ghost use Rattle.arg_bind.specs.Answers.{AnswersAs, IsOwn};
@@ -102,7 +103,7 @@ pub fn last<L: Ledger>(alloc: Global, x: &Column, steps: &mut Steps<L>) -> Resul
 
 /// The number of a length.
 fn number(n: usize) -> i64
-    requires { n ≤ 16777216 }
+    requires { n ≤ MAX_ROWS }
     ensures { int_cell result ≡ is.Int (pos n) }
 {
     n as i64

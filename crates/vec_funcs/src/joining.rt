@@ -1,5 +1,6 @@
 ghost use Rattle.std.specs.Prelude.{◌≡◌, ◌+◌, ◌≤◌, nat_lt, length, map, All, IfOk, IfErr};
-ghost use Rattle.vector_model.specs.Combine.{common_of, kinds_of, total_length, cells_as, joined};
+ghost use Rattle.dt_model.specs.Combine.{common_of, kinds_of, total_length, cells_as};
+ghost use Rattle.vector_model.specs.Combine.{joined};
 ghost use Rattle.arg_bind.specs.Answers.{AnswersAs, IsOwn};
 ghost use Rattle.na_words.specs.Shown.{vector_from};
 ghost use Rattle.vec_funcs.specs.Valued.{vector_in, vector_of};
@@ -27,7 +28,7 @@ fn common_kind(values: &[Valued]) -> ColType
 
 /// Whether there are more than 16,777,216 cells in all.
 fn are_too_many(values: &[Valued]) -> bool
-    ensures { result ≡ nat_lt 16777216 (total_length (map vector_in values.now)) }
+    ensures { result ≡ nat_lt MAX_ROWS (total_length (map vector_in values.now)) }
 {
     let mut left = MAX_ROWS;
     for v in values {
@@ -64,7 +65,7 @@ fn column_as<W: Target + Drop, L: Ledger>(
     values: &[Valued],
     steps: &mut Steps<L>,
 ) -> Result<Column, AllocError>
-    requires { total_length (map vector_in values.now) ≤ 16777216 }
+    requires { total_length (map vector_in values.now) ≤ MAX_ROWS }
     ensures { IfOk result (λ c. c.vector ≡ vector_from W.kind (cells_as W.kind (map vector_in values.now))) }
 {
     W::column(words_as::<W, L>(alloc, values, steps)?)
@@ -76,7 +77,7 @@ fn column_of_kind<L: Ledger>(
     values: &[Valued],
     steps: &mut Steps<L>,
 ) -> Result<Column, AllocError>
-    requires { total_length (map vector_in values.now) ≤ 16777216 }
+    requires { total_length (map vector_in values.now) ≤ MAX_ROWS }
     ensures { IfOk result (λ c. c.vector ≡ vector_from kind (cells_as kind (map vector_in values.now))) }
 {
     match kind {

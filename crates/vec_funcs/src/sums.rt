@@ -1,4 +1,5 @@
 ghost use Rattle.std.specs.Prelude.{◌≡◌, ◌+◌, ◌^◌, ◌≤◌, ◌+ℤ◌, ◌≤ℤ◌, pos, neg_ℤ, nat_lt, unsigned_abs, length, map, IfErr};
+ghost use Rattle.dt_base.specs.declared.limits.TheConstants.{MAX_ROWS};
 ghost use Rattle.dt_model.specs.Operations.{number, whole};
 ghost use Rattle.vector_model.specs.Functions.{amount, total, total_value, sum_cells, sum_value};
 ghost use Rattle.arg_bind.specs.Answers.{AnswersAs, IsOwn};
@@ -48,7 +49,7 @@ fn plus(t: i128, n: i128) -> i128
 
 /// The exact total: 128 bits hold that of 2^24 integers.
 fn total<A: Number>(words: &[A]) -> i128
-    requires { length words.now ≤ 16777216 }
+    requires { length words.now ≤ MAX_ROWS }
     ensures { result ≡ total (map A.cell words.now) }
 {
     let mut t: i128 = 0;
@@ -85,7 +86,7 @@ fn total_given(alloc: Global, n: i128) -> Result<Valued, EvalFail>
 
 /// The sum of words that are numbers.
 fn sum_words<A: Number>(alloc: Global, words: &[A], na_rm: bool) -> Result<Valued, EvalFail>
-    requires { length words.now ≤ 16777216 }
+    requires { length words.now ≤ MAX_ROWS }
     ensures answer { AnswersAs valued_of (sum_cells na_rm (map A.cell words.now)) result }
     ensures own { IfErr result IsOwn }
 {

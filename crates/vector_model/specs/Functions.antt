@@ -9,8 +9,7 @@
 --   is_before t a b        a stands before b in the order of cells of type t, NA apart
 --   winner beats cells     the first cell that no cell beats, NA apart
 -- The other functions on vectors stand in dt_model:
---   `c(a, b)`              Operations, `combined`; of more vectors, once each is brought to the one
---                          type that is common to all
+--   `c(a, ..)`             Combine, `in_a_row`, and Combine of this crate, `joined`
 --   `is.na(x)`             Operations, `unary` with IsNa
 --   `fifelse(test, a, b)`  Operations, `chosen`
 --   `as.logical(x)`, `as.integer(x)`, `as.character(x)`   Coercion, `coerced` and `coercion_warns`

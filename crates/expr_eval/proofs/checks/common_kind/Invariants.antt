@@ -1,5 +1,5 @@
 use Rattle.std.proofs.Common.{◌≡◌, drop}
-use Rattle.vector_model.specs.Combine.{common_from, common_of}
+use Rattle.dt_model.specs.Combine.{common_from, common_of}
 use Rattle.expr_eval.proofs.checks.common_kind.Given as goal
 
 abbrev pub invariant-loop-kind : goal.invariant-loop-kind

@@ -1,5 +1,5 @@
 use Rattle.std.proofs.Common.{◌≡◌, ◌+◌, map, drop}
-use Rattle.vector_model.specs.Combine.{total_length}
+use Rattle.dt_model.specs.Combine.{total_length}
 use Rattle.vec_funcs.specs.Valued.{vector_in}
 use Rattle.vec_funcs.proofs.joining.are_too_many.Given as goal
 

@@ -1,5 +1,5 @@
 use Rattle.std.proofs.Common.{◌≡◌, ◌+◌, ◌++◌, ◌≤◌, All, length, map, drop}
-use Rattle.vector_model.specs.Combine.{total_length, cells_as}
+use Rattle.dt_model.specs.Combine.{total_length, cells_as}
 use Rattle.vec_funcs.specs.Valued.{vector_in}
 use Rattle.vec_funcs.proofs.joining.words_as.Given as goal
 
