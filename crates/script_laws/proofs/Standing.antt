@@ -77,8 +77,7 @@ mutual
   none_brackets (MoreBrackets before i j by args) h =
       let r = rear (inner_brackets before) (false ∷ (inner_item i ++ (inner_item j ++ (inner_item by ++ inner_args args)))) h in
       let s = rear (inner_item i) (inner_item j ++ (inner_item by ++ inner_args args)) r.1 in
-      let p = rear (inner_item j) (inner_item by ++ inner_args args) s in
-      (
+      let p = rear (inner_item j) (inner_item by ++ inner_args args) s in (
         none_brackets before (front (inner_brackets before) (false ∷ (inner_item i ++ (inner_item j ++ (inner_item by ++ inner_args args)))) h),
         none_item i (front (inner_item i) (inner_item j ++ (inner_item by ++ inner_args args)) r.1),
         none_item j (front (inner_item j) (inner_item by ++ inner_args args) s),
@@ -115,9 +114,11 @@ mutual
   right_brackets : (bs : Brackets) → NoneInBrackets bs → NoneTrue (inner_brackets bs)
   right_brackets NoBrackets h = tt
   right_brackets (MoreBrackets before i j by args) h =
-      both (inner_brackets before) (false ∷ (inner_item i ++ (inner_item j ++ (inner_item by ++ inner_args args)))) (right_brackets before h.0)
-      (refl, both (inner_item i) (inner_item j ++ (inner_item by ++ inner_args args)) (right_item i h.1)
-      (both (inner_item j) (inner_item by ++ inner_args args) (right_item j h.2) (both (inner_item by) (inner_args args) (right_item by h.3) (right_args args h.4))))
+      both (inner_brackets before) (false ∷ (inner_item i ++ (inner_item j ++ (inner_item by ++ inner_args args)))) (right_brackets before h.0) (
+        refl,
+        both (inner_item i) (inner_item j ++ (inner_item by ++ inner_args args)) (right_item i h.1)
+            (both (inner_item j) (inner_item by ++ inner_args args) (right_item j h.2) (both (inner_item by) (inner_args args) (right_item by h.3) (right_args args h.4))),
+      )
 
 -- the brackets of an outermost chain, by how far it has come
 abbrev Came : Stage → Brackets → Type 0
@@ -197,9 +198,11 @@ assigned_j (Assigns l r) h = (refl, both (inner l) (false ∷ inner r) (right l 
 assigned_j (AssignsAll args) h = (refl, (not_true (are_pairs args) h.0, right_args args h.1))
 
 free_flags : (i j by : Item) (args : Args) → NoneInItem i → NoneTrue (j_flags j) → NoneInItem by → NoneInArgs args → NoneTrue (bracket_flags Free i j by args)
-free_flags i j by args fi fj fb fa =
-    (refl, both (inner_item i) (j_flags j ++ (inner_item by ++ inner_args args)) (right_item i fi)
-    (both (j_flags j) (inner_item by ++ inner_args args) fj (both (inner_item by) (inner_args args) (right_item by fb) (right_args args fa))))
+free_flags i j by args fi fj fb fa = (
+  refl,
+  both (inner_item i) (j_flags j ++ (inner_item by ++ inner_args args)) (right_item i fi)
+      (both (j_flags j) (inner_item by ++ inner_args args) fj (both (inner_item by) (inner_args args) (right_item by fb) (right_args args fa))),
+)
 
 at_free : (bs : Brackets) → NoneInBrackets bs → AtStage Free bs
 at_free NoBrackets h = record { is = refl; none_true = tt }
