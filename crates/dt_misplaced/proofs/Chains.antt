@@ -1,8 +1,8 @@
 -- The flags of a script that code holds, statement by statement.
-use Rattle.std.proofs.Common.{◌≡◌, ◌≢◌, ℕ, zero, suc, ◌+◌, ◌<◌, Bool, true, false, not, List, [], ◌∷◌, ◌++◌, length, take, get_or, Option, Some, None, map, refl, sym, ◌∙◌, ap, subst, arith, append_assoc, append-nil, ◌==◌, eqb-true}
+use Rattle.std.proofs.Common.{◌≡◌, ◌≢◌, ℕ, zero, suc, ◌+◌, ◌<◌, Bool, true, false, not, List, [], ◌∷◌, ◌++◌, length, take, get_or, Option, Some, None, map, refl, sym, ◌∙◌, ap, arith, append_assoc, append-nil, ◌==◌, eqb-true}
 use Rattle.std.specs.Option.{is_some}
 use Rattle.std.proofs.lemmas.List.{take_more}
-use Rattle.dt_tree.specs.declared.tree.Expr.{Expr, out-Expr, roll-Expr, roll-out-Expr}
+use Rattle.dt_tree.specs.declared.tree.Expr.{Expr}
 use Rattle.dt_tree.specs.declared.tree.Expr.TheOpen as layer
 use Rattle.dt_tree.specs.declared.tree.Expr.TheVariants as code
 use Rattle.dt_tree.specs.declared.tree.Arg.{Arg}
@@ -10,10 +10,11 @@ use Rattle.dt_tree.specs.declared.tree.Bracket.{Bracket, out-Bracket}
 use Rattle.dt_tree.specs.declared.tree.Second.{Second, out-Second, roll-Second, roll-out-Second}
 use Rattle.dt_tree.specs.declared.tree.Second.TheVariants as second
 use Rattle.dt_tree.specs.declared.tree.Stmt as stmt_type
-use Rattle.run_model.specs.GrammarTrees.{Word, Tree, Args, NoArgs, MoreArgs, Item, Absent, Given, Assigns, AssignsAll}
+use Rattle.run_model.specs.GrammarTrees.{Word, Tree, Query, Args, NoArgs, MoreArgs, Item, Absent, Given, Assigns, AssignsAll}
 use Rattle.run_model.specs.Misplaced.{Stage, Free, Assigned, target_flags, inner, inner_args, j_stage, j_flags, all_named, are_pairs, is_empty, outer, outer_brackets, bracket_flags, stage, next_stage, stmt_flags, flags}
 use Rattle.run_model.specs.TreeView.{ArgTree, args_from, arg_of, tree_of, item_of_second, args_of, brackets_of, first_of, second_of, stmt_of, stmts_of}
-use Rattle.dt_grammar.proofs.Inverse.{Layer, SecondLayer, second-roll, tree_of-roll, bracket_opened}
+use Rattle.dt_grammar.proofs.Forms.{is_query, no_query}
+use Rattle.dt_grammar.proofs.Inverse.{SecondLayer, second-roll, bracket_opened}
 use Rattle.dt_grammar.proofs.Trees.{tree_of-Query, arg_of_is, args_of-push, brackets_of-push, item_of_second-Value, item_of_second-Assign, item_of_second-AssignAll}
 use Rattle.dt_misplaced.proofs.Parts.{both_parts}
 
@@ -57,21 +58,12 @@ stmts-push (y ∷ ss) x = ap (λ z. stmt_flags (stmt_of y) ++ z) (stmts-push ss 
 pub outer-Query : (t : Expr) (bs : List Bracket) → outer (tree_of (code.Query t bs)) ≡ inner (tree_of t) ++ outer_brackets (brackets_of bs)
 outer-Query t bs = ap outer (tree_of-Query t bs)
 
-outer_layer : (l : Layer) → ((t : Expr) (bs : List Bracket) → roll-Expr l ≢ code.Query t bs) → outer (tree_of (roll-Expr l)) ≡ inner (tree_of (roll-Expr l))
-outer_layer (layer.Lit c k) h = ap outer (tree_of-roll (layer.Lit c k)) ∙ sym (ap inner (tree_of-roll (layer.Lit c k)))
-outer_layer layer.Null h = ap outer (tree_of-roll layer.Null) ∙ sym (ap inner (tree_of-roll layer.Null))
-outer_layer layer.Infinite h = ap outer (tree_of-roll layer.Infinite) ∙ sym (ap inner (tree_of-roll layer.Infinite))
-outer_layer (layer.Name x) h = ap outer (tree_of-roll (layer.Name x)) ∙ sym (ap inner (tree_of-roll (layer.Name x)))
-outer_layer (layer.Paren t) h = ap outer (tree_of-roll (layer.Paren t)) ∙ sym (ap inner (tree_of-roll (layer.Paren t)))
-outer_layer (layer.Minus t) h = ap outer (tree_of-roll (layer.Minus t)) ∙ sym (ap inner (tree_of-roll (layer.Minus t)))
-outer_layer (layer.Not t) h = ap outer (tree_of-roll (layer.Not t)) ∙ sym (ap inner (tree_of-roll (layer.Not t)))
-outer_layer (layer.Chain t rest) h = ap outer (tree_of-roll (layer.Chain t rest)) ∙ sym (ap inner (tree_of-roll (layer.Chain t rest)))
-outer_layer (layer.Call x args) h = ap outer (tree_of-roll (layer.Call x args)) ∙ sym (ap inner (tree_of-roll (layer.Call x args)))
-outer_layer (layer.Query t bs) h = absurd (h t bs (code.rolls-Query t bs))
-outer_layer (layer.Formula xs ys) h = ap outer (tree_of-roll (layer.Formula xs ys)) ∙ sym (ap inner (tree_of-roll (layer.Formula xs ys)))
+outer_tree : (t : Tree) → is_query t ≡ false → outer t ≡ inner t
+outer_tree (Query u bs) e = absurd cc
+outer_tree t e = refl
 
 pub outer_other : (e : Expr) → ((t : Expr) (bs : List Bracket) → e ≢ code.Query t bs) → outer (tree_of e) ≡ inner (tree_of e)
-outer_other e h = subst (λ s. ((t : Expr) (bs : List Bracket) → s ≢ code.Query t bs) → outer (tree_of s) ≡ inner (tree_of s)) (roll-out-Expr e) (outer_layer (out-Expr e)) h
+outer_other e h = outer_tree (tree_of e) (no_query e h)
 
 -- j where an assignment may stand
 pub free-Value : (t : Expr) → j_flags (item_of_second (second.Value t)) ≡ inner (tree_of t)
