@@ -1,3 +1,4 @@
 mod Examples
 pub mod Names
+pub mod PlainTables
 pub mod Tables

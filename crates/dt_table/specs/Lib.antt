@@ -1,3 +1,4 @@
 pub mod Make
 pub mod Plain
+pub mod PlainTables
 pub mod Table

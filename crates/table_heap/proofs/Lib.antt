@@ -3,3 +3,4 @@ pub mod Bounds
 pub mod Heaps
 pub mod Plain
 pub mod Slots
+pub mod PlainTables

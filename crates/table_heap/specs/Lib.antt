@@ -6,3 +6,4 @@ pub mod Names
 pub mod Seen
 pub mod State
 pub mod Sweep
+pub mod Tables

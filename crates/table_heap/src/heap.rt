@@ -13,11 +13,12 @@ ghost use Rattle.table_heap.specs.Names.{bounds_of};
 ghost use Rattle.table_heap.specs.Seen.{IsAt, IsTableAt};
 ghost use Rattle.table_heap.specs.State.{state_of};
 ghost use Rattle.table_heap.specs.Sweep.{swept_slots};
+ghost use Rattle.table_heap.specs.Tables.{HoldTables};
 
 use crate::bound::{Bound, Id, Look, Numbered};
 use crate::fails::{AliasFail, NotThere};
 use crate::names::{Names, look_up, put_name, take_name};
-use crate::tables::{Tables, put_table, sweep};
+use crate::tables::{Tables, hold_tables, put_table, sweep};
 use dt_base::Text;
 use dt_table::Table;
 use indexmap::IndexMap;
@@ -78,6 +79,13 @@ impl Heap {
         ensures state { model.IsState (state_of self.now) }
     {
         self.tables.len()
+    }
+
+    /// Each table is sound, as each table is. It looks at every place.
+    pub(crate) fn hold_tables(&self)
+        ensures { HoldTables self.now.held.slots }
+    {
+        hold_tables(&self.tables);
     }
 
     /// What the name is bound to.

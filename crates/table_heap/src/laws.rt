@@ -1,6 +1,7 @@
 //! What follows of every heap, as functions that do nothing.
 ghost use Rattle.table_heap.specs.Alike.{Alike};
 ghost use Rattle.table_heap.specs.State.{state_of};
+ghost use Rattle.table_heap.specs.Tables.{HasPlainTables};
 
 use crate::Heap;
 
@@ -10,4 +11,12 @@ pub fn alike(heap: &Heap)
     ensures { Alike heap.now (state_of heap.now) }
 {
     let _count = heap.live();
+}
+
+/// Each table of a heap's state is a plain table: a cell of its column's type, or NA, for each column
+/// in each row; distinct names; and all within the limits.
+pub fn plain_tables(heap: &Heap)
+    ensures { HasPlainTables (state_of heap.now) }
+{
+    heap.hold_tables();
 }

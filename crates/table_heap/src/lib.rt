@@ -5,7 +5,8 @@
 //! - `reserve` makes room for one binding. After it `bind_new`, `bind_vector`, `bind_table` and `alias`
 //!   bind one name, and neither they nor `remove` can fail for want of memory. A table that loses its
 //!   last name is dropped.
-//! - `laws::alike`: what the heap and its state have in common, name by name.
+//! - `laws::alike`: what the heap and its state have in common, name by name; `laws::plain_tables`: what
+//!   is so of each table of the state.
 //!
 //! It stands on `dt_base`, `dt_table`, `na_vector`, the states of `dt_model`, and on `indexmap` and
 //! `slab`. Each table keeps a number that no other table ever has, so the meaning of a heap is a state

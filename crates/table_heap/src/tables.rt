@@ -4,7 +4,9 @@ ghost use Rattle.std.specs.FinMap as finite;
 ghost use Rattle.slab.specs.Slab.{HasRoomFor, slab_len};
 ghost use Rattle.table_heap.specs.Names.{bounds_of};
 ghost use Rattle.table_heap.specs.Seen.{slot_at};
+ghost use Rattle.dt_table.specs.Table.{IsTable};
 ghost use Rattle.table_heap.specs.Sweep.{SetsSlot, swept_slots};
+ghost use Rattle.table_heap.specs.Tables.{HoldTables};
 
 use crate::bound::{Bound, Id, Numbered};
 use crate::names::{Names, has_name};
@@ -48,5 +50,23 @@ pub(crate) fn sweep(names: &Names, tables: &mut Tables, old: Option<Bound>)
             }
         }
         Some(Bound::Vector(_)) | None => (),
+    }
+}
+
+/// Each table at a place is sound, as each table is. It looks at every place.
+pub(crate) fn hold_tables(tables: &Tables)
+    ensures { HoldTables tables.now.slots }
+{
+    for slot in 0..tables.capacity() {
+        look_at(tables, slot);
+    }
+}
+
+/// The table at a place is sound, if there is one.
+fn look_at(tables: &Tables, slot: usize)
+    ensures { (x : Numbered) → slot_at tables.now.slots slot ≡ Some x → IsTable x.table }
+{
+    if let Some(place) = tables.get(slot) {
+        let _slots = place.table.slots();
     }
 }
