@@ -7,7 +7,7 @@ use Rattle.dt_session.specs.declared.fail.ExecFail.{ExecFail}
 use Rattle.dt_session.specs.declared.fail.ExecFail.TheVariants as exec
 use Rattle.dt_session.specs.declared.fail.RunFail.{RunFail}
 use Rattle.dt_world.specs.Told.{FileMap, appended, AppendedPart}
-use Rattle.session_model.proofs.Parts.{appended_nothing, none_part, parted_none}
+use Rattle.session_model.proofs.Parts.{appended_nothing, none_part, parted_in_lines, parted_none}
 use Rattle.session_model.specs.Evaluation.{End, Evaluates, IsEnd}
 use Rattle.session_model.specs.World.{World, Parted, world, after}
 use Rattle.dt_cli.specs.Run.{Answers, AskedCut, AskedEnds, CheckCut, Checks, FileCut, RunCut, Runs, ScriptCut, Told, on_err, script_bytes, status_of}
@@ -23,7 +23,7 @@ only_err f o e n line h = let same : o ≡ appended o [] = sym (appended_nothing
 
 -- only `err` has a first part more
 part_on_err : (f : Option FileMap) (o e n : Option (List ℕ)) (line : List ℕ) → AppendedPart e n line → Parted (world f o e) (on_err line) (world f o n)
-part_on_err f o e n line h = record { files = refl; out = none_part o o [] refl; err = h }
+part_on_err f o e n line h = parted_in_lines f o e n line h
 
 none_on_err : (f : Option FileMap) (o e n : Option (List ℕ)) (line : List ℕ) → n ≡ e → Parted (world f o e) (on_err line) (world f o n)
 none_on_err f o e n line h = part_on_err f o e n line (none_part e n line h)

@@ -12,7 +12,9 @@
 //! that blames the outside comes only where a count of it rose.
 #![tactic(auto)]
 
-ghost use Rattle.std.specs.Prelude.{◌≡◌, ◌≢◌, ◌<◌};
+ghost use Rattle.std.specs.Prelude.{◌≡◌, ◌≢◌, ◌<◌, map, string_bytes};
+ghost use Rattle.dt_cli.specs.Run.{IsByWords};
+ghost use Rattle.dt_cli.specs.Words.{LacksScript, with_name};
 
 mod check;
 mod run;
@@ -35,6 +37,8 @@ fn run_real<L: Ledger>(rt: &HostRuntime, words: &[String], blank: Blank) -> Stat
     requires name { blank.name ≡ L.name }
     requires parts { blank.parts ≡ L.parts }
     requires some { 0 < blank.parts }
+    ensures words { IsByWords (map string_bytes words.now) result }
+    ensures usage { result ≡ Status.Usage → LacksScript (with_name (map string_bytes words.now)) }
 {
     let mut steps = Steps::<L>::new(blank);
     let mut files = RealFiles::new(rt.alloc(), rt);

@@ -5,31 +5,18 @@ ghost use Rattle.session_model.specs.World.{world};
 ghost use Rattle.dt_session.specs.Answers.{AnyRose};
 ghost use Rattle.dt_cli.specs.Given.{meant, texts};
 ghost use Rattle.dt_cli.specs.Run.{Answers, AskedCut, AskedEnds, Headline, IsByWords, NeedsScript, ScriptCut, ScriptEnds, StopsWith, Told};
-ghost use Rattle.dt_cli.specs.Steps.{status_for};
 ghost use Rattle.dt_cli.specs.Words.{LacksScript, all_asked, with_name};
 
 use crate::check::check_script;
-use crate::status::Status;
+use crate::status::{Status, status_for};
 use crate::telling::{tell_absent, tell_too_long, tell_usage};
 use crate::words::{Asked, asked_by, named_words};
 use dt_base::Steps;
 use dt_base::limits::MAX_SCRIPT_BYTES;
-use dt_session::{ExecFail, Session, run_script};
+use dt_session::{Session, run_script};
 use dt_world::{Files, ReadFail, Sink};
 use std::alloc::Global;
 use std::sync::ledger::Ledger;
-
-/// The status of a run that ended early.
-fn status_for(cause: &ExecFail) -> Status
-    ensures { result ≡ status_for cause.now }
-{
-    match cause {
-        ExecFail::Stop(_) => Status::Stopped,
-        ExecFail::ReadFault => Status::ReadFault,
-        ExecFail::WriteFault => Status::WriteFault,
-        ExecFail::NoMemory(_) => Status::NoMemory,
-    }
-}
 
 /// Runs the script of these bytes on an empty session.
 fn run_bytes<F: Files, O: Sink, E: Sink, L: Ledger>(

@@ -1,4 +1,7 @@
 ghost use Rattle.std.specs.Prelude.{◌≡◌};
+ghost use Rattle.dt_cli.specs.Steps.{status_for};
+
+use dt_session::ExecFail;
 
 /// How a run ended.
 #[derive(Clone, Copy, Debug, PartialEq, Eq)]
@@ -34,5 +37,17 @@ impl Status {
             Status::WriteFault => 4,
             Status::NoMemory => 5,
         }
+    }
+}
+
+/// The status of a run that ended early.
+pub fn status_for(cause: &ExecFail) -> Status
+    ensures { result ≡ status_for cause.now }
+{
+    match cause {
+        ExecFail::Stop(_) => Status::Stopped,
+        ExecFail::ReadFault => Status::ReadFault,
+        ExecFail::WriteFault => Status::WriteFault,
+        ExecFail::NoMemory(_) => Status::NoMemory,
     }
 }

@@ -2,4 +2,5 @@ pub mod Ends
 pub mod Execs
 pub mod FaultLines
 pub mod Lines
+pub mod Refusals
 pub mod Scripts

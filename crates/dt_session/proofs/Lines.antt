@@ -7,6 +7,7 @@ use Rattle.dt_script.specs.declared.bytes.ParseFail.{ParseFail}
 use Rattle.dt_world.specs.Told.{appended}
 use Rattle.run_model.specs.Messages.{printed_fault, printed_warns}
 use Rattle.session_model.proofs.Parts.{appended_nothing}
+use Rattle.session_model.specs.Evaluation.{line_of, script_fault}
 use Rattle.dt_session.specs.Answers.{IsStopped}
 use Rattle.dt_session.specs.Lines.{warned_lines, WarnedAt, Warned, FaultPut, EndsInFault, TellsFault}
 use Rattle.dt_session.specs.Refusals.{IsNoMemory, RefusalEnd}
@@ -56,6 +57,6 @@ no_fault line b v (NoMemory x) h = tt
 
 -- a script whose reading is refused tells its fault, and no warning
 pub refusal_tells : (e : ParseFail) (b v : Option (List ℕ)) (r : RunFail) → RefusalEnd e b v r → TellsFault r.line b v r.cause
-refusal_tells e b v r (inl (x, is, l, d, p)) =
-    rw l (fault_next x.line b b v r.cause (warned_none b) (stopped_put x.line x.fault b b v r.cause refl p))
-refusal_tells e b v r (inr (m, l, d, same)) = no_fault r.line b v r.cause m
+refusal_tells e b v r (inl (f, is, h)) =
+    rw (h.0) (fault_next (line_of f) b b v r.cause (warned_none b) (stopped_put (line_of f) (script_fault f) b b v r.cause refl h.2))
+refusal_tells e b v r (inr h) = no_fault r.line b v r.cause h.0

@@ -1,26 +1,24 @@
 -- A whole script, from the answers of its reading and of its statements.
-use Rattle.std.proofs.Common.{◌≡◌, ℕ, List, [], Option, Some, Result, Ok, Err, OnOk, IfErr, refl, sym, ap, subst, ◌∙◌, inl, inr}
+use Rattle.std.proofs.Common.{◌≡◌, ◌⊎◌, ℕ, List, [], Option, Some, Result, Ok, Err, OnOk, IfErr, refl, sym, ap, subst, ◌∙◌, inl, inr}
 use Rattle.dt_base.specs.declared.fault.Fault.{Fault}
 use Rattle.dt_model.specs.State.{State}
-use Rattle.dt_script.specs.Answers.{FailsAs, IsOnlyFault, fail_of}
+use Rattle.dt_script.specs.Answers.{FailsAs}
 use Rattle.dt_script.specs.declared.bytes.ParseFail.{ParseFail}
-use Rattle.dt_script.specs.declared.bytes.ParseFail.TheVariants as fail
 use Rattle.dt_tree.specs.declared.fault.ScriptFault.{ScriptFault}
-use Rattle.dt_tree.specs.declared.fault.ScriptFault.TheVariants as fault
 use Rattle.dt_tree.specs.declared.tree.Script.{Script}
 use Rattle.dt_tree.specs.declared.tree.Stmt.{Stmt}
 use Rattle.dt_world.specs.Told.{AppendedPart}
 use Rattle.run_model.specs.Messages.{printed_fault}
 use Rattle.run_model.specs.Reading.{IsReadAs, IsRefused}
-use Rattle.session_model.proofs.Parts.{none_part, told_all}
+use Rattle.session_model.proofs.Parts.{none_part, parted_in_lines, told_all}
 use Rattle.session_model.specs.Evaluation.{plain, stopped, IsEnd, reads, refuses, in_statement, in_refusal, script_fault, line_of}
 use Rattle.session_model.specs.World.{World, Parted, world, fault_pieces}
 use Rattle.dt_session.specs.Answers.{ReadsAs, EndCause, EndsAs, StmtsCause, StmtsEnd, IsStopped}
-use Rattle.dt_session.specs.Refusals.{IsRefusalOf, IsNoMemory, RefusalEnd}
+use Rattle.dt_session.specs.Refusals.{EndsWith, IsNoMemory, RefusalEnd, Untold}
+use Rattle.dt_session.proofs.Refusals.{refused_with}
 use Rattle.dt_session.specs.declared.fail.ExecFail.{ExecFail}
 use Rattle.dt_session.specs.declared.fail.ExecFail.TheVariants.{Stop, ReadFault, WriteFault, NoMemory}
 use Rattle.dt_session.specs.declared.fail.RunFail.{RunFail}
-use Rattle.dt_session.specs.declared.run.Refusal.{Refusal}
 
 -- all statements of a script that is read were done
 pub script_done : (bytes : List ℕ) (t : Script) (xs : List Stmt) (s now : State) (w v : World) (r : Result (Unit {0}) RunFail) → IsReadAs bytes t → xs ≡ t.stmts → OnOk r (IsEnd (plain xs s w 0) now v) → OnOk r (ReadsAs bytes s w (λ e. IsEnd e now v))
@@ -38,23 +36,9 @@ pub script_ends : (bytes : List ℕ) (t : Script) (xs : List Stmt) (s now : Stat
 script_ends bytes t xs s now w v (Ok x) h e d = tt
 script_ends bytes t xs s now w v (Err x) h e d = cause_ends bytes t s now w v x x.cause h (subst (λ ys. StmtsCause ys s w now v x x.cause) e d)
 
--- what is told of a refusal is the fault of the reading
-tells : (f : ScriptFault) (x : Refusal) → IsRefusalOf (fail_of f) x → x ≡ record { line = line_of f; fault = script_fault f }
-tells fault.NotUtf8 x h = h
-tells (fault.Syntax p) x h = h
-tells (fault.Number p) x h = h
-tells (fault.TooDeep p) x h = h
-
-only_fault : (bytes : List ℕ) (e : ParseFail) (x : Refusal) → IsRefusalOf e x → FailsAs bytes e → IsOnlyFault bytes e
-only_fault bytes fail.NotUtf8 x is h = h
-only_fault bytes (fail.Syntax l b) x is h = h
-only_fault bytes (fail.Number l) x is h = h
-only_fault bytes (fail.TooDeep l) x is h = h
-only_fault bytes (fail.NoMemory e) x is h = absurd is
-
 -- a first part of the fault's line was put
 line_part : (line : ℕ) (f : Fault) (w : World) (v : Option (List ℕ)) → AppendedPart w.err v (printed_fault line f) → Parted w (fault_pieces line f) (world w.files w.out v)
-line_part line f w v p = record { files = refl; out = none_part w.out w.out [] refl; err = p }
+line_part line f w v p = parted_in_lines w.files w.out w.err v (printed_fault line f) p
 
 refused_cause : (bytes : List ℕ) (s : State) (w : World) (f : ScriptFault) (v : Option (List ℕ)) (r : RunFail) (cause : ExecFail) → IsRefused bytes f → r.line ≡ line_of f → r.done ≡ 0 → IsStopped (line_of f) (script_fault f) w.err v cause → EndCause bytes s w s (world w.files w.out v) r cause
 refused_cause bytes s w f v r (Stop g) h l d p = (
@@ -69,7 +53,7 @@ refused_cause bytes s w f v r (Stop g) h l d p = (
 )
 refused_cause bytes s w f v r ReadFault h l d p = absurd p
 refused_cause bytes s w f v r WriteFault h l d p = in_refusal f h d l refl (line_part (line_of f) (script_fault f) w v p)
-refused_cause bytes s w f v r (NoMemory x) h l d p = inl (in_refusal f h d l refl (line_part (line_of f) (script_fault f) w v p))
+refused_cause bytes s w f v r (NoMemory x) h l d p = inl (in_refusal f h d l refl (line_part (line_of f) (script_fault f) w v (none_part w.err v (printed_fault (line_of f) (script_fault f)) p)))
 
 memory_cause : (bytes : List ℕ) (s : State) (w : World) (v : Option (List ℕ)) (r : RunFail) (cause : ExecFail) → IsNoMemory cause → r.line ≡ 0 → r.done ≡ 0 → v ≡ w.err → EndCause bytes s w s (world w.files w.out v) r cause
 memory_cause bytes s w v r (Stop g) m l d e = absurd m
@@ -77,13 +61,10 @@ memory_cause bytes s w v r ReadFault m l d e = absurd m
 memory_cause bytes s w v r WriteFault m l d e = absurd m
 memory_cause bytes s w v r (NoMemory x) m l d e = inr (d, l, refl, (λ i. world w.files w.out (e i)))
 
-told_cause : (bytes : List ℕ) (s : State) (w : World) (f : ScriptFault) (x : Refusal) (v : Option (List ℕ)) (r : RunFail) → IsRefused bytes f → x ≡ record { line = line_of f; fault = script_fault f } → r.line ≡ x.line → r.done ≡ 0 → IsStopped x.line x.fault w.err v r.cause → EndCause bytes s w s (world w.files w.out v) r r.cause
-told_cause bytes s w f x v r h e l d p =
-    refused_cause bytes s w f v r r.cause h (l ∙ ap (λ y. y.line) e) d (subst (λ y. IsStopped y.line y.fault w.err v r.cause) e p)
+refusal_ends : (bytes : List ℕ) (s : State) (w : World) (v : Option (List ℕ)) (r : RunFail) → ((f : ScriptFault) × IsRefused bytes f × EndsWith f w.err v r) ⊎ Untold w.err v r → EndsAs bytes s w s (world w.files w.out v) r
+refusal_ends bytes s w v r (inl (f, refused, h)) = refused_cause bytes s w f v r r.cause refused h.0 h.1 h.2
+refusal_ends bytes s w v r (inr h) = memory_cause bytes s w v r r.cause h.0 h.1 h.2 h.3
 
 -- a script whose reading is refused
 pub refused_ends : (bytes : List ℕ) (s : State) (w : World) (e : ParseFail) (v : Option (List ℕ)) (r : RunFail) → FailsAs bytes e → RefusalEnd e w.err v r → EndsAs bytes s w s (world w.files w.out v) r
-refused_ends bytes s w e v r h (inl (x, is, l, d, p)) =
-    let only : IsOnlyFault bytes e = only_fault bytes e x is h in
-    told_cause bytes s w only.fault x v r only.refused (tells only.fault x (subst (λ y. IsRefusalOf y x) only.told is)) l d p
-refused_ends bytes s w e v r h (inr (m, l, d, same)) = memory_cause bytes s w v r r.cause m l d same
+refused_ends bytes s w e v r h k = refusal_ends bytes s w v r (refused_with bytes e w.err v r h k)

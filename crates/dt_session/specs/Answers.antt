@@ -90,12 +90,13 @@ sent e lines = record { text = e.text.items; file = option_map plain_file e.file
 abbrev pub prepared_effect : Prepared → model.Effect
 prepared_effect p = plain_effect p.effect
 
--- the line of the fault was put; or a first part of it, where that put failed
+-- The line of the fault was put. Where that put failed a first part of it was, and where memory was
+-- wanting nothing.
 abbrev pub IsStopped : ℕ → Fault → Option (List ℕ) → Option (List ℕ) → ExecFail → Type 0
 IsStopped line f e v (Stop g) = (g ≡ f) × (v ≡ appended e (printed_fault line f))
 IsStopped line f e v ReadFault = ⊥
 IsStopped line f e v WriteFault = AppendedPart e v (printed_fault line f)
-IsStopped line f e v (NoMemory x) = AppendedPart e v (printed_fault line f)
+IsStopped line f e v (NoMemory x) = v ≡ e
 
 -- A fault is the one of the definition, and its line is put. Else a first part stands of what the
 -- statement sends, its fault's line included.

@@ -1,42 +1,35 @@
 -- A script whose reading is refused.
---   fail_line e, fail_fault e   the line and the fault that a refusal of the reading tells
---   IsOnLine line f r           r is the fault f on this line, or want of memory
---   IsRefusalOf e x             x is what the refusal e tells
---   RefusalEnd e b v r          how the run ends that puts it on what holds b, and then v
-use Rattle.std.specs.Prelude.{◌≡◌, ◌⊎◌, ℕ, List, [], Option, Result, Ok, Err}
-use Rattle.std.specs.declared.alloc.AllocError.{AllocError}
-use Rattle.dt_base.specs.declared.fault.Code.TheVariants.{E01, E18, E21, E22}
-use Rattle.dt_base.specs.declared.fault.Fault.{Fault}
-use Rattle.dt_base.specs.Fault.{fault}
+--   IsRefusalOf e x     x is the line and the fault that tell the refusal e
+--   EndsWith f b v r    the run ended with the fault f of the reading, whose line was put on what holds
+--                       b, and then v
+--   RefusalEnd e b v r  so it ended with the refusal e; or memory was wanting, and nothing was put
+use Rattle.std.specs.Prelude.{◌≡◌, ◌⊎◌, ℕ, List, Option}
+use Rattle.dt_script.specs.Answers.{fail_of}
 use Rattle.dt_script.specs.declared.bytes.ParseFail.{ParseFail}
-use Rattle.dt_script.specs.declared.bytes.ParseFail.TheVariants.{NotUtf8, Syntax, Number, TooDeep, NoMemory}
-use Rattle.session_model.specs.Value.{number_fault}
+use Rattle.dt_tree.specs.declared.fault.ScriptFault.{ScriptFault}
+use Rattle.session_model.specs.Evaluation.{line_of, script_fault}
 use Rattle.dt_session.specs.Answers.{IsStopped}
 use Rattle.dt_session.specs.declared.fail.ExecFail.{ExecFail}
-use Rattle.dt_session.specs.declared.fail.ExecFail.TheVariants as exec
+use Rattle.dt_session.specs.declared.fail.ExecFail.TheVariants.{NoMemory}
 use Rattle.dt_session.specs.declared.fail.RunFail.{RunFail}
-use Rattle.dt_session.specs.declared.run.Refusal.{Refusal}
+use Rattle.dt_session.specs.declared.refusal.Refusal.{Refusal}
 
--- the fault on this line, or want of memory
-abbrev pub IsOnLine : ℕ → Result Fault AllocError → Result Refusal AllocError → Type 0
-IsOnLine line (Ok f) (Ok x) = x ≡ record { line = line; fault = f }
-IsOnLine line (Err e) (Err d) = Unit {0}
-IsOnLine line _ _ = ⊥
-
--- what a refusal of the reading tells; of want of memory there is nothing to tell
+-- the line and the fault of a script whose reading has this fault; of want of memory nothing is told
 abbrev pub IsRefusalOf : ParseFail → Refusal → Type 0
-IsRefusalOf NotUtf8 x = x ≡ record { line = 0; fault = fault E18 [] }
-IsRefusalOf (Syntax line byte) x = x ≡ record { line = line; fault = number_fault E01 byte }
-IsRefusalOf (Number line) x = x ≡ record { line = line; fault = fault E22 [] }
-IsRefusalOf (TooDeep line) x = x ≡ record { line = line; fault = fault E21 [] }
-IsRefusalOf (NoMemory e) x = ⊥
+IsRefusalOf e x = (f : ScriptFault) × (e ≡ fail_of f) × (x ≡ record { line = line_of f; fault = script_fault f })
 
 abbrev pub IsNoMemory : ExecFail → Type 0
-IsNoMemory (exec.NoMemory e) = Unit {0}
+IsNoMemory (NoMemory e) = Unit {0}
 IsNoMemory _ = ⊥
 
--- its line is put, or a first part of it; or memory was wanting before that
+-- no statement was done, and the fault's line was put, or a first part of it where that put failed
+abbrev pub EndsWith : ScriptFault → Option (List ℕ) → Option (List ℕ) → RunFail → Type 0
+EndsWith f b v r = (r.line ≡ line_of f) × (r.done ≡ 0) × IsStopped (line_of f) (script_fault f) b v r.cause
+
+-- memory was wanting before there was a line to put
+abbrev pub Untold : Option (List ℕ) → Option (List ℕ) → RunFail → Type 0
+Untold b v r = IsNoMemory r.cause × (r.line ≡ 0) × (r.done ≡ 0) × (v ≡ b)
+
+-- the fault that the reading was refused for, and no other
 abbrev pub RefusalEnd : ParseFail → Option (List ℕ) → Option (List ℕ) → RunFail → Type 0
-RefusalEnd e b v r =
-    ((x : Refusal) × IsRefusalOf e x × (r.line ≡ x.line) × (r.done ≡ 0) × IsStopped x.line x.fault b v r.cause)
-    ⊎ (IsNoMemory r.cause × (r.line ≡ 0) × (r.done ≡ 0) × (v ≡ b))
+RefusalEnd e b v r = ((f : ScriptFault) × (e ≡ fail_of f) × EndsWith f b v r) ⊎ Untold b v r

@@ -4,8 +4,10 @@
 //!   is computed; the memory for its change is taken; and then the text, the file and the warnings
 //!   are put, and the change is made, which cannot fail.
 //! - `run_script` reads the bytes of a script and runs its statements until the first fault.
+//! - `tell_refusal` puts the line of the fault for which the reading of a script was refused.
 //! - `ExecFail` and `RunFail` say why a statement or a script ended early.
-//! - `laws::one_fault`: what came on the other output tells which code stopped a script.
+//! - `laws::one_fault`: what came on the other output tells which code stopped a script;
+//!   `laws::plain_tables`: what is so of each table of a session's state.
 //!
 //! It stands on `stmt_effect` for what statements do, on `table_heap` for names and tables, on
 //! `dt_script` for reading and on `dt_world` for the outside.
@@ -21,6 +23,7 @@ mod fail;
 mod finish;
 pub mod laws;
 mod puts;
+mod refusal;
 mod run;
 mod session;
 #[cfg(test)]
@@ -28,5 +31,6 @@ mod tests;
 
 pub use dt_query::Options;
 pub use fail::{ExecFail, RunFail};
+pub use refusal::tell_refusal;
 pub use run::run_script;
 pub use session::{Session, alike};

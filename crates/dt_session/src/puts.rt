@@ -1,4 +1,4 @@
-ghost use Rattle.std.specs.Prelude.{◌≡◌, ◌≤◌, OnOk, OnErr, IsErrOf, option_map};
+ghost use Rattle.std.specs.Prelude.{◌≡◌, ◌≤◌, OnOk, OnErr, IsErrOf, alloc_error, option_map};
 ghost use Rattle.dt_world.specs.Causes.{Rose};
 ghost use Rattle.dt_world.specs.Told.{appended, AppendedPart};
 ghost use Rattle.session_model.specs.World.{world, filed, after, Parted, FiledPart};
@@ -8,12 +8,13 @@ ghost use Rattle.dt_session.specs.Answers.{AnyRose, sent};
 use dt_world::{Files, Sink, WriteFail};
 use stmt_effect::{Effect, Written};
 
-/// Puts a piece at once; an empty one is not put.
+/// Puts a piece at once; an empty one is not put. After want of memory nothing was.
 #[tactic(auto, using(session_model::proofs::Parts::appended_nothing, session_model::proofs::Parts::none_part))]
 pub fn put_piece<S: Sink>(sink: &mut S, piece: &[u8]) -> Result<(), WriteFail>
     ensures ok { OnOk result (S.bytes sink.new ≡ appended (S.bytes sink.old) piece.now) }
     ensures part { OnErr result (AppendedPart (S.bytes sink.old) (S.bytes sink.new) piece.now) }
     ensures failed { IsErrOf result WriteFail.Failed → Rose (S.faults sink.old) (S.faults sink.new) }
+    ensures no_memory { IsErrOf result (WriteFail.NoMemory alloc_error) → S.bytes sink.new ≡ S.bytes sink.old }
     ensures faults { S.faults sink.old ≤ S.faults sink.new }
 {
     if piece.is_empty() {

@@ -1,57 +1,23 @@
-ghost use Rattle.std.specs.Prelude.{◌≡◌, ◌≢◌, ◌≤◌, IfOk, IfErr, OnOk, OnErr, false, IsSome, IsNone, IsErrOf, length};
-ghost use Rattle.arg_bind.specs.Answers.{is_of_file};
+ghost use Rattle.std.specs.Prelude.{◌≡◌, ◌≤◌, IfOk, IfErr, OnOk, OnErr, IsSome, IsNone, IsErrOf, length};
 ghost use Rattle.dt_base.specs.declared.limits.TheConstants.{MAX_SCRIPT_BYTES};
 ghost use Rattle.dt_world.specs.Causes.{Rose};
-ghost use Rattle.dt_world.specs.Told.{appended, AppendedPart};
-ghost use Rattle.run_model.specs.Messages.{printed_fault};
 ghost use Rattle.session_model.specs.Evaluation.{Did, IsEnd, plain};
 ghost use Rattle.session_model.specs.Statement.{step};
 ghost use Rattle.session_model.specs.World.{world, look};
-ghost use Rattle.dt_base.specs.declared.fault.Code.TheVariants.{E01};
-ghost use Rattle.session_model.specs.Value.{number_fault};
-ghost use Rattle.dt_session.specs.Answers.{AnyRose, Blames, IsOwn, IsStopped, LineCause, StmtsEnd, ReadsAs, EndsAs};
+ghost use Rattle.dt_session.specs.Answers.{AnyRose, Blames, LineCause, StmtsEnd, ReadsAs, EndsAs};
 ghost use Rattle.dt_session.specs.Lines.{WarnedAt, FaultPut, TellsFault};
-ghost use Rattle.dt_session.specs.Refusals.{IsOnLine, IsRefusalOf, RefusalEnd};
 ghost use Rattle.dt_session.specs.Session.{state_of};
 
 use crate::fail::{ExecFail, RunFail};
-use crate::puts::put_piece;
+use crate::refusal::{stopped, tell_refusal};
 use crate::session::Session;
-use dt_base::{Code, Fault, Steps, Text};
-use dt_print::fault_line;
-use dt_script::{ParseFail, Stmt, parse};
-use dt_world::{Files, Sink, WriteFail};
-use std::alloc::{AllocError, Global};
+use dt_base::Steps;
+use dt_script::{Stmt, parse};
+use dt_world::{Files, Sink};
 use std::sync::ledger::Ledger;
 
-/// Puts the line of a fault.
-fn put_fault<E: Sink>(alloc: Global, line: u32, fault: &Fault, err: &mut E) -> Result<(), WriteFail>
-    ensures ok { OnOk result (E.bytes err.new ≡ appended (E.bytes err.old) (printed_fault line fault.now)) }
-    ensures part { OnErr result (AppendedPart (E.bytes err.old) (E.bytes err.new) (printed_fault line fault.now)) }
-    ensures failed { IsErrOf result WriteFail.Failed → Rose (E.faults err.old) (E.faults err.new) }
-    ensures faults { E.faults err.old ≤ E.faults err.new }
-{
-    match fault_line(alloc, line, fault) {
-        Ok(text) => put_piece(err, &text),
-        Err(error) => Err(WriteFail::NoMemory(error)),
-    }
-}
-
-/// Why a statement ended early whose fault has this line: the fault, once its line is put.
-fn stopped<E: Sink>(alloc: Global, line: u32, fault: Fault, err: &mut E) -> ExecFail
-    ensures put { IsStopped line fault (E.bytes err.old) (E.bytes err.new) result }
-    ensures own { is_of_file fault.code ≡ false → IsOwn result }
-    ensures failed { result ≡ ExecFail.WriteFault → Rose (E.faults err.old) (E.faults err.new) }
-    ensures faults { E.faults err.old ≤ E.faults err.new }
-{
-    match put_fault(alloc, line, &fault, err) {
-        Ok(()) => ExecFail::Stop(fault),
-        Err(WriteFail::Failed) => ExecFail::WriteFault,
-        Err(WriteFail::NoMemory(error)) => ExecFail::NoMemory(error),
-    }
-}
-
 /// Runs one statement, and puts the line of its fault.
+#[tactic(auto, using(crate::proofs::Ends::part_sent, crate::proofs::Ends::line_stopped, session_model::proofs::Parts::parted_none))]
 fn run_line<F: Files, O: Sink, E: Sink, L: Ledger>(
     session: &mut Session,
     stmt: &Stmt,
@@ -121,71 +87,6 @@ fn run_stmts<F: Files, O: Sink, E: Sink, L: Ledger>(
     Ok(())
 }
 
-/// A fault of the reading of a script, with its line.
-#[derive(Drop)]
-struct Refusal {
-    line: u32,
-    fault: Fault,
-}
-
-/// The fault E01 at a byte of its line.
-fn syntax_fault(alloc: Global, byte: u32) -> Result<Fault, AllocError>
-    ensures { IfOk result (λ f. f ≡ number_fault E01 byte) }
-{
-    Ok(Fault {
-        code: Code::E01,
-        what: Text::make(alloc, "")?,
-        n: byte as u64,
-        m: 0,
-    })
-}
-
-/// A fault on its line, or want of memory.
-fn on_line(line: u32, fault: Result<Fault, AllocError>) -> Result<Refusal, AllocError>
-    ensures { IsOnLine line fault result }
-{
-    match fault {
-        Ok(fault) => Ok(Refusal { line, fault }),
-        Err(error) => Err(error),
-    }
-}
-
-/// How the fault of the reading is told.
-fn refusal_of(alloc: Global, fail: ParseFail) -> Result<Refusal, AllocError>
-    ensures told { IfOk result (IsRefusalOf fail) }
-    ensures own { IfOk result (λ x. is_of_file x.fault.code ≡ false) }
-{
-    match fail {
-        ParseFail::NotUtf8 => on_line(0, Fault::of(alloc, Code::E18, "")),
-        ParseFail::Syntax { line, byte } => on_line(line, syntax_fault(alloc, byte)),
-        ParseFail::Number { line } => on_line(line, Fault::of(alloc, Code::E22, "")),
-        ParseFail::TooDeep { line } => on_line(line, Fault::of(alloc, Code::E21, "")),
-        ParseFail::NoMemory(error) => Err(error),
-    }
-}
-
-/// Why the script ended whose reading is refused: its fault, once its line is put.
-fn refused<E: Sink>(alloc: Global, fail: ParseFail, err: &mut E) -> RunFail
-    ensures end { RefusalEnd fail (E.bytes err.old) (E.bytes err.new) result }
-    ensures own { IsOwn result.cause }
-    ensures read { result.cause ≢ ExecFail.ReadFault }
-    ensures write { result.cause ≡ ExecFail.WriteFault → Rose (E.faults err.old) (E.faults err.new) }
-    ensures faults { E.faults err.old ≤ E.faults err.new }
-{
-    match refusal_of(alloc, fail) {
-        Ok(Refusal { line, fault }) => RunFail {
-            line,
-            done: 0,
-            cause: stopped(alloc, line, fault, err),
-        },
-        Err(error) => RunFail {
-            line: 0,
-            done: 0,
-            cause: ExecFail::NoMemory(error),
-        },
-    }
-}
-
 /// Reads the bytes of a script, and runs its statements one after another until the first that is
 /// refused. The line of the fault is put on `err`, behind the lines of the warnings of those that were
 /// done.
@@ -216,6 +117,6 @@ pub fn run_script<F: Files, O: Sink, E: Sink, L: Ledger>(
 {
     match parse(session.alloc(), bytes) {
         Ok(script) => run_stmts(session, script.stmts.as_slice(), files, out, err, steps),
-        Err(fail) => Err(refused(session.alloc(), fail, err)),
+        Err(fail) => Err(tell_refusal(session.alloc(), fail, err)),
     }
 }

@@ -4,7 +4,7 @@
 --   pieces_of n e     what an effect of the statement on line n sends outside
 --   fault_pieces n f  what a fault on line n sends outside: its line
 --   after w p         the world after all of it
---   Parted w p now    the world after a first part of it
+--   Parted w p now    the world after a first part of it: of the text, then the file, then the lines
 --   look files        the file of a name, where files are told
 use Rattle.std.specs.Prelude.{◌≡◌, ℕ, List, [], Option, None, Some}
 use Rattle.std.specs.FinMap as finite
@@ -56,8 +56,9 @@ abbrev pub FiledPart : Option FileMap → Option FileMap → Option (List ℕ ×
 FiledPart held now None = now ≡ held
 FiledPart held now (Some file) = WrotePart held now file.0 file.1
 
--- the world after a first part of each
-pub record Parted (w : World) (p : Pieces) (now : World) : Type 0 where
-  pub files : FiledPart w.files now.files p.file
-  pub out : AppendedPart w.out now.out p.text
-  pub err : AppendedPart w.err now.err p.lines
+-- The world after a first part of it. The text goes first, then the file, then the lines: one that was
+-- begun has all of those before it, and nothing of those behind it.
+pub data Parted (w : World) (p : Pieces) (now : World) : Type 0 where
+  in_text : AppendedPart w.out now.out p.text → now.files ≡ w.files → now.err ≡ w.err → Parted w p now
+  in_file : now.out ≡ appended w.out p.text → FiledPart w.files now.files p.file → now.err ≡ w.err → Parted w p now
+  in_lines : now.out ≡ appended w.out p.text → now.files ≡ filed w.files p.file → AppendedPart w.err now.err p.lines → Parted w p now

@@ -14,7 +14,7 @@ returns-in-Ok-clause-ends g c told =
 
 pub returns-in-Err-clause-ends : goal.returns-in-Err-clause-ends
 returns-in-Err-clause-ends g c told =
-    refused_ends c.args.bytes.now (state_of c.args.session.now) (world (g.F.Files.held c.args.files.now) (g.O.Sink.bytes c.args.out.now) (g.E.Sink.bytes c.args.err.now)) c.in-Err.fail _ c.refused.result c.in-Err.ensures.fault c.refused.ensures.end
+    refused_ends c.args.bytes.now (state_of c.args.session.now) (world (g.F.Files.held c.args.files.now) (g.O.Sink.bytes c.args.out.now) (g.E.Sink.bytes c.args.err.now)) c.in-Err.fail _ c.tell_refusal.result c.in-Err.ensures.fault c.tell_refusal.ensures.end
 
 pub returns-in-Err-clause-put : goal.returns-in-Err-clause-put
-returns-in-Err-clause-put g c = refusal_tells c.in-Err.fail _ _ c.refused.result c.refused.ensures.end
+returns-in-Err-clause-put g c = refusal_tells c.in-Err.fail _ _ c.tell_refusal.result c.tell_refusal.ensures.end
