@@ -1,5 +1,5 @@
 -- The field of a record at a place.
-use Rattle.std.proofs.Common.{◌≡◌, ◌<◌, ℕ, zero, suc, List, [], ◌∷◌, Option, Some, None, get_or, length, refl, arith}
+use Rattle.std.proofs.Common.{◌≡◌, ◌<◌, ℕ, zero, suc, List, [], ◌∷◌, Some, get_or, length, refl, arith}
 use Rattle.csv.specs.Records.{field_at}
 
 -- within a record there is a field

@@ -1,5 +1,6 @@
 pub mod ColumnFacts
 pub mod FieldFacts
+pub mod FillingFacts
 pub mod LeftFacts
 pub mod NameFacts
 pub mod NamesFacts

@@ -1,10 +1,9 @@
 -- Names: a set of them, the least number that makes one new, and one name after the other.
-use Rattle.std.proofs.Common.{◌≡◌, ◌≢◌, ◌<◌, ◌≤◌, ◌+◌, ◌-◌, ◌^◌, ◌++◌, ◌&&◌, ◌||◌, ◌⊎◌, ℕ, zero, suc, List, [], ◌∷◌, Bool, true, false, not, cond, map, length, drop, get_or, unwrap_or, Option, Some, None, find, refl, sym, ap, subst, ◌∙◌, append_assoc, arith, add-one, drop-cons, length-append, true≢false, decimal}
+use Rattle.std.proofs.Common.{◌≡◌, ◌<◌, ◌≤◌, ◌+◌, ◌^◌, ◌++◌, ◌||◌, ℕ, zero, suc, List, [], ◌∷◌, Bool, true, false, not, cond, map, length, unwrap_or, Option, Some, inl, inr, refl, sym, ap, subst, ◌∙◌, arith, length-append, true≢false, decimal}
 use Rattle.std.specs.List.{list_any, range_with_len, IsDistinct}
 use Rattle.std.specs.Str.{bytes_eq}
-use Rattle.std.specs.Set.{is_member}
-use Rattle.std.specs.Cmp.Lexicographic.{pointwise, nat_list_eq_equiv}
-use Rattle.std.proofs.lemmas.Bool.{false_from_ne_true}
+use Rattle.std.specs.Cmp.Lexicographic.{nat_list_eq_equiv}
+use Rattle.std.proofs.lemmas.Bool.{cases_lt, false_from_ne_true}
 use Rattle.std.proofs.lemmas.Fmt.{decimal_injective}
 use Rattle.std.proofs.lemmas.List.{append_cancel_left, length-map}
 use Rattle.std.proofs.lemmas.List.Folds.{list_any-append}
@@ -13,7 +12,8 @@ use Rattle.std.proofs.lemmas.Map.Keys.{IsDistinct-from_apart}
 use Rattle.std.proofs.lemmas.Map.Made.{length-le_from_is_member}
 use Rattle.std.proofs.lemmas.Slice.Eq.{bytes_eq-Decides}
 use Rattle.dt_table.proofs.Names.{find_least}
-use Rattle.run_model.specs.CsvNames.{base_name, is_among, numbered, least_new, new_name, names_after}
+use Rattle.csv_edge.specs.Taken.{TakenBelow, TakenUpTo}
+use Rattle.run_model.specs.CsvNames.{is_among, numbered, least_new}
 
 -- ---- a set of names
 
@@ -39,7 +39,7 @@ least_found names n k low high here before =
     (find_least (λ k. not (is_among (numbered n k) names)) (length names + 1) 1 k low (omega arith) (ap not here) (λ j l h. ap not (before j l h)))
 
 -- a test of two texts that says true
-same_text : (a b : List ℕ) → bytes_eq a b ≡ true → a ≡ b
+pub same_text : (a b : List ℕ) → bytes_eq a b ≡ true → a ≡ b
 same_text a b e = (bytes_eq-Decides a b).0 e
 
 tail_of : List ℕ → List ℕ
@@ -81,3 +81,40 @@ not_all_old names n small old =
     let few : length these ≤ length names =
     length-le_from_is_member nat_list_eq_equiv these names apart (λ q e. all_old count 1 names n q (λ j l u. old j l (omega arith)) e) in
     omega arith
+
+-- ---- numbers that are taken
+
+or_last : (b : Bool) → (b || true) ≡ true
+or_last true = refl
+or_last false = refl
+
+-- of no names none is taken
+pub taken_none : (n : List ℕ) → TakenUpTo 0 n []
+taken_none n = record { low = omega arith; taken = λ j a b. absurd (omega (arith, a, b)) }
+
+-- what was taken stays taken
+pub taken_more : (k : ℕ) (n x : List ℕ) (names more : List (List ℕ)) → more ≡ names ++ x ∷ [] → TakenBelow k n names → TakenBelow k n more
+taken_more k n x names more e t = record {
+  low = omega (arith, t.low, ap length e, length-append names (x ∷ []));
+  taken = λ j a b. rw (e, list_any-append (bytes_eq (numbered n j)) names (x ∷ []), t.taken j a b) refl;
+}
+
+-- and the name that was added is taken
+pub taken_new : (k : ℕ) (n : List ℕ) (names more : List (List ℕ)) → more ≡ names ++ numbered n k ∷ [] → TakenBelow k n names → TakenUpTo k n more
+taken_new k n names more e t = record {
+  low = omega (arith, t.low, ap length e, length-append names (numbered n k ∷ []));
+  taken = λ j a b. elim (cases_lt j k) [
+    | inl lt ↦ rw (e, list_any-append (bytes_eq (numbered n j)) names (numbered n k ∷ []), t.taken j a lt) refl
+    | inr ge ↦ (let same : j ≡ k = omega (arith, b, ge) in
+        rw (e, list_any-append (bytes_eq (numbered n j)) names (numbered n k ∷ []), same, (bytes_eq-Decides (numbered n k) (numbered n k)).1 refl) (or_last (list_any (bytes_eq (numbered n k)) names)))
+  ];
+}
+
+-- a number that is noted for one name leaves those of the others
+pub taken_noted : (base q : List ℕ) (k : ℕ) (now was : Option ℕ) (names : List (List ℕ)) → now ≡ cond (bytes_eq base q) (Some k) was
+    → TakenUpTo k base names → TakenUpTo (unwrap_or was 0) q names → TakenUpTo (unwrap_or now 0) q names
+taken_noted base q k now was names e here there =
+    rw e ((elim (bytes_eq base q) as (λ b. bytes_eq base q ≡ b → TakenUpTo (unwrap_or (cond b (Some k) was) 0) q names) [
+      | true ↦ λ h. subst (λ t. TakenUpTo k t names) (same_text base q h) here
+      | false ↦ λ _. there
+    ]) refl)

@@ -1,12 +1,11 @@
 -- The names of a header: as many as its fields, none empty, and none twice.
-use Rattle.std.proofs.Common.{◌≡◌, ◌<◌, ◌≤◌, ◌+◌, ◌-◌, ◌^◌, ◌++◌, ◌&&◌, ◌⊎◌, ℕ, zero, suc, List, [], ◌∷◌, Bool, true, false, not, cond, All, length, take, get_or, unwrap_or, Option, Some, None, find, refl, sym, ap, subst, ◌∙◌, inl, inr, arith, length-append, true≢false, decimal}
-use Rattle.std.specs.List.{list_any, range_with_len}
-use Rattle.std.specs.Str.{bytes_eq}
+use Rattle.std.proofs.Common.{◌≡◌, ◌<◌, ◌+◌, ◌^◌, ◌++◌, ℕ, List, [], ◌∷◌, Bool, true, false, not, cond, All, length, unwrap_or, Some, None, find, refl, sym, inl, inr, arith, length-append, decimal}
+use Rattle.std.specs.List.{range_with_len}
 use Rattle.std.proofs.lemmas.Bool.{cases_lt}
 use Rattle.std.proofs.lemmas.List.{take-append-le, get_or_append_left}
 use Rattle.std.proofs.lemmas.List.Elements.{All-append}
 use Rattle.std.proofs.Math.Seq.{get_or-append_seam, take-append_seam}
-use Rattle.dt_model.specs.Table.{name_at, is_repeated, first_repeated}
+use Rattle.dt_model.specs.Table.{is_repeated, first_repeated}
 use Rattle.dt_table.specs.Table.{IsFilled}
 use Rattle.dt_table.proofs.Names.{miss_from_none, find_none}
 use Rattle.csv_edge.proofs.NameFacts.{not_all_old}

@@ -1,5 +1,5 @@
 -- The read of one record: it takes bytes, and leaves the reader between two records.
-use Rattle.std.proofs.Common.{◌≡◌, ◌<◌, ◌≤◌, ◌+◌, ◌==◌, ◌&&◌, ℕ, suc, List, [], ◌∷◌, ◌++◌, Bool, true, false, cond, Option, None, Some, length, refl, sym, ap, ◌∙◌, subst, arith, true≢false, if◌then◌else◌}
+use Rattle.std.proofs.Common.{◌≡◌, ◌<◌, ◌≤◌, ◌==◌, ◌&&◌, ℕ, suc, List, [], ◌∷◌, ◌++◌, Bool, true, false, Option, None, Some, length, refl, sym, ap, ◌∙◌, arith, true≢false, if◌then◌else◌}
 use Rattle.std.specs.Option.{option_map_or}
 use Rattle.csv.specs.Machine.{Read, next_record, ends_at_end, is_end, step, in_field, start_field, start_record, after_end, ends_with, is_byte, fields_after, field_after}
 use Rattle.csv.specs.declared.parser.Config.{Config}

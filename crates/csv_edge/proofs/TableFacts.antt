@@ -1,70 +1,76 @@
 -- The table of a file: its columns, and what the definition of reading says of it.
-use Rattle.std.proofs.Common.{◌≡◌, ◌<◌, ◌≤◌, ◌+◌, ◌*◌, ◌++◌, ◌^◌, ℕ, zero, suc, List, [], ◌∷◌, All, map, length, take, drop, get_or, cond, nat_lt, Option, None, Some, Result, Ok, Err, refl, sym, ap, subst, ◌∙◌, arith}
+use Rattle.std.proofs.Common.{◌≡◌, ◌<◌, ◌≤◌, ◌+◌, ◌*◌, ◌++◌, ◌^◌, ℕ, suc, List, [], ◌∷◌, All, map, length, take, drop, get_or, true, false, None, Ok, refl, sym, ap, ◌∙◌, arith}
 use Rattle.std.specs.List.{range_with_len}
 use Rattle.std.proofs.lemmas.Grind.{common_steps}
 use Rattle.std.proofs.lemmas.List.{length-map}
 use Rattle.std.proofs.lemmas.List.FromFn.{length-range_with_len}
 use Rattle.std.proofs.Math.Seq.{take-append_seam}
-use Rattle.csv.specs.Records.{Row, fields_of}
-use Rattle.csv_edge.specs.Columns.{first_length, column_vector, Gathered}
+use Rattle.csv_edge.specs.Columns.{first_length, Gathered}
+use Rattle.csv_edge.specs.Filling.{Holds, Gains, IsSound, filled_vector}
+use Rattle.csv_edge.specs.declared.filling.Filling.{Filling}
+use Rattle.csv_edge.specs.declared.filling.Filling.TheVariants.{Missing}
+use Rattle.csv_edge.proofs.FillingFacts.{filled_twice, holds_vector, holds_sound}
 use Rattle.csv_edge.proofs.NamesFacts.{column_names-apart, names_after-length}
 use Rattle.dt_base.specs.declared.warns.Warns.{Warns}
-use Rattle.dt_model.specs.Table.{first_repeated}
-use Rattle.dt_model.specs.Vector.{Vector}
-use Rattle.dt_table.specs.Make.{refusal, limit_refusal, name_refusal}
+use Rattle.dt_table.specs.Make.{refusal, limit_refusal}
 use Rattle.dt_table.specs.Plain.{plain}
 use Rattle.dt_table.specs.Table.{TableSeen, made}
 use Rattle.na_vector.specs.Column.{Seen}
 use Rattle.na_vector.specs.Frame.{FrameSeen, vectors_of}
-use Rattle.run_model.specs.Csv.{Record, FileFault, header_fault, rows_fault, fields_at, records_columns, records_table, read_records}
+use Rattle.run_model.specs.Csv.{Record, header_fault, rows_fault, fields_at, records_columns, records_table, read_records}
 use Rattle.run_model.specs.CsvCells.{fields_vector}
 use Rattle.run_model.specs.CsvNames.{column_names, name_warns}
 
 -- ---- the columns that were gathered
 
 -- a vector that was written through its slice
-pub written_back : (new items : List Row) (n : ℕ) → length new ≡ n → take n (new ++ drop (length new) items) ≡ new
+pub written_back : (new items : List Filling) (n : ℕ) → length new ≡ n → take n (new ++ drop (length new) items) ≡ new
 written_back new items n e = rw (← e) (take-append_seam new (drop (length new) items))
 
--- columns that were empty and gained the fields of some records
-pub gathered : (before columns : List Row) (rows : List Record) → length columns ≡ length before
-    → ((c : ℕ) (d : Row) → c < length before → fields_of (get_or before c d) ≡ [])
-    → ((c : ℕ) (d : Row) → c < length before → fields_of (get_or columns c d) ≡ fields_of (get_or before c d) ++ fields_at c rows)
-    → Gathered columns rows
-gathered before columns rows same empty gained c d h =
-    let within : c < length before = omega arith in gained c d within ∙ rw (empty c d within) refl
+-- columns that were empty, and gained the fields of the records in both readings
+pub gathered : (empty once twice : List Filling) (rows : List Record) → length once ≡ length empty → length twice ≡ length once
+    → ((c : ℕ) (d : Filling) → c < length empty → get_or empty c d ≡ Missing 0)
+    → ((c : ℕ) (d : Filling) → c < length empty → Gains false (get_or empty c d) (get_or once c d) (fields_at c rows))
+    → ((c : ℕ) (d : Filling) → c < length once → Gains true (get_or once c d) (get_or twice c d) (fields_at c rows))
+    → Gathered twice rows
+gathered empty once twice rows same again start first second c d h =
+    let within : c < length empty = omega arith in
+    filled_twice (get_or empty c d) (get_or once c d) (get_or twice c d) (fields_at c rows) (start c d within) (first c d within) (second c d (omega arith))
 
-pub gathered-length : (columns : List Row) (rows : List Record) → Gathered columns rows → (c : ℕ) (d : Row) → c < length columns
-    → length (fields_of (get_or columns c d)) ≡ length rows
-gathered-length columns rows g c d h = rw (g c d h, length-map) refl
+pub gathered-length : (columns : List Filling) (rows : List Record) → Gathered columns rows → (c : ℕ) (d : Filling) → c < length columns
+    → length (filled_vector (get_or columns c d)).cells ≡ length rows
+gathered-length columns rows g c d h = rw (holds_vector (get_or columns c d) (fields_at c rows) (g c d h), length-map, length-map) refl
 
-pub first_length-rows : (columns : List Row) (rows : List Record) → Gathered columns rows → 0 < length columns → first_length columns ≡ length rows
+pub first_length-rows : (columns : List Filling) (rows : List Record) → Gathered columns rows → 0 < length columns → first_length columns ≡ length rows
 first_length-rows [] rows g some = absurd (omega arith)
 first_length-rows (x ∷ xs) rows g some = gathered-length (x ∷ xs) rows g 0 x (omega arith)
 
-pub one_length : (columns : List Row) (rows : List Record) → Gathered columns rows → 0 < length columns
-    → All (λ column. length (fields_of column) ≡ first_length columns) columns
+pub one_length : (columns : List Filling) (rows : List Record) → Gathered columns rows → 0 < length columns
+    → All (λ column. length (filled_vector column).cells ≡ first_length columns) columns
 one_length columns rows g some c d h = gathered-length columns rows g c d h ∙ sym (first_length-rows columns rows g some)
 
+pub all_sound : (columns : List Filling) (rows : List Record) → Gathered columns rows → All IsSound columns
+all_sound columns rows g c d h = holds_sound (get_or columns c d) (fields_at c rows) (g c d h)
+
 -- and is the vector of these fields
-vectors_from : (columns : List Row) (a : ℕ) (rows : List Record)
-    → ((c : ℕ) (d : Row) → c < length columns → fields_of (get_or columns c d) ≡ fields_at (a + c) rows)
-    → map column_vector columns ≡ map (λ c. fields_vector (fields_at c rows)) (range_with_len a (length columns))
+vectors_from : (columns : List Filling) (a : ℕ) (rows : List Record)
+    → ((c : ℕ) (d : Filling) → c < length columns → Holds (get_or columns c d) (fields_at (a + c) rows) (fields_at (a + c) rows))
+    → map filled_vector columns ≡ map (λ c. fields_vector (fields_at c rows)) (range_with_len a (length columns))
 vectors_from [] a rows g = refl
 vectors_from (x ∷ xs) a rows g =
     let here : a + 0 ≡ a = omega arith in
-    let first : fields_of x ≡ fields_at a rows = rw here at (g 0 x (omega arith)) in
+    let first : filled_vector x ≡ fields_vector (fields_at a rows) = holds_vector x (fields_at a rows) (rw here at (g 0 x (omega arith))) in
     let later = vectors_from xs (a + 1) rows (λ c d h. let next : a + suc c ≡ (a + 1) + c = omega arith in rw next at (g (suc c) d (omega arith))) in
     rw (first, later) refl
 
-pub gathered-vectors : (header : Record) (columns : List Row) (rows : List Record) → length columns ≡ length header → Gathered columns rows
-    → map column_vector columns ≡ records_columns header rows
+pub gathered-vectors : (header : Record) (columns : List Filling) (rows : List Record) → length columns ≡ length header → Gathered columns rows
+    → map filled_vector columns ≡ records_columns header rows
 gathered-vectors header columns rows same g =
     rw (← same) (vectors_from columns 0 rows (λ c d h. let zero_more : 0 + c ≡ c = omega arith in rw zero_more (g c d h)))
 
 -- a frame of these columns is as wide
-pub frame_width : (frame : List Seen) (columns : List Row) → vectors_of frame ≡ map column_vector columns → length frame ≡ length columns
-frame_width frame columns same = sym (length-map frame (λ c. c.vector)) ∙ (ap length same ∙ length-map columns column_vector)
+pub frame_width : (frame : List Seen) (columns : List Filling) → vectors_of frame ≡ map filled_vector columns → length frame ≡ length columns
+frame_width frame columns same = sym (length-map frame (λ c. c.vector)) ∙ (ap length same ∙ length-map columns filled_vector)
 
 -- ---- the table
 

@@ -1,16 +1,16 @@
 -- Rows and names that are written one after the other.
-use Rattle.std.proofs.Common.{◌≡◌, ◌<◌, ◌≤◌, ◌+◌, ◌-◌, ◌*◌, ◌++◌, ◌==◌, ℕ, zero, suc, List, [], ◌∷◌, Option, Some, None, map, length, drop, get_or, cond, slice_get, Result, Ok, Err, is_ok, OnOk, false, refl, sym, ap, ◌∙◌, append_assoc, arith, add-one, drop-cons}
+use Rattle.std.proofs.Common.{◌≡◌, ◌<◌, ◌+◌, ◌-◌, ◌++◌, ◌==◌, ℕ, zero, suc, List, [], ◌∷◌, Some, map, length, drop, get_or, cond, slice_get, Result, Ok, Err, is_ok, OnOk, false, refl, sym, ap, ◌∙◌, append_assoc, arith, add-one, drop-cons}
 use Rattle.std.specs.List.{concat, range_with_len}
 use Rattle.std.proofs.lemmas.List.{length-map}
 use Rattle.csv.specs.Writing.{default_writer, row_text}
 use Rattle.dt_base.specs.declared.cell.Cell.{Cell}
-use Rattle.dt_model.specs.Table.{heads_of, row_at, rows_of}
+use Rattle.dt_model.specs.Table.{heads_of, row_at}
 use Rattle.dt_model.specs.Vector.{Vector, cell_at}
 use Rattle.dt_table.specs.Plain.{plain}
 use Rattle.dt_table.specs.Table.{TableSeen}
 use Rattle.na_vector.specs.Column.{Seen}
 use Rattle.na_vector.specs.Frame.{vectors_of}
-use Rattle.run_model.specs.Csv.{written_csv, written_rows}
+use Rattle.run_model.specs.Csv.{written_csv}
 use Rattle.run_model.specs.CsvCells.{cell_text}
 
 -- the list from a place on begins with the element there

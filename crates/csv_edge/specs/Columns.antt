@@ -1,22 +1,22 @@
--- Columns of fields, as they are gathered.
---   first_length columns   how many fields the first column has; of no column 0
---   column_vector column   the vector of a column's fields
+-- Columns, as they are gathered.
+--   below bytes            the records below the header of a file
+--   first_length columns   how many cells the first column has; of no column 0
 --   Gathered columns rows  each column holds the fields that records have at its place
-use Rattle.std.specs.Prelude.{◌≡◌, ◌<◌, ℕ, List, [], ◌∷◌, length, slice_index_or}
-use Rattle.csv.specs.Records.{Row, fields_of}
-use Rattle.dt_model.specs.Vector.{Vector}
+use Rattle.std.specs.Prelude.{◌<◌, ℕ, List, [], ◌∷◌, drop, length, slice_index_or}
+use Rattle.csv.specs.Reading.{records, default_config, strip_bom}
+use Rattle.csv_edge.specs.Filling.{Holds, filled_vector}
+use Rattle.csv_edge.specs.declared.filling.Filling.{Filling}
 use Rattle.run_model.specs.Csv.{Record, fields_at}
-use Rattle.run_model.specs.CsvCells.{fields_vector}
 
--- how many fields the first column has
-abbrev pub first_length : List Row → ℕ
+-- the records behind the first
+abbrev pub below : List ℕ → List Record
+below bytes = drop 1 (records default_config (strip_bom bytes))
+
+-- how many cells the first column has
+abbrev pub first_length : List Filling → ℕ
 first_length [] = 0
-first_length (column ∷ rest) = length (fields_of column)
-
--- the vector of a column's fields
-abbrev pub column_vector : Row → Vector
-column_vector column = fields_vector (fields_of column)
+first_length (column ∷ rest) = length (filled_vector column).cells
 
 -- each column holds the fields that the records have at its place, places counted from 0
-abbrev pub Gathered : List Row → List Record → Type 0
-Gathered columns rows = (c : ℕ) (d : Row) → c < length columns → fields_of (slice_index_or columns c d) ≡ fields_at c rows
+abbrev pub Gathered : List Filling → List Record → Type 0
+Gathered columns rows = (c : ℕ) (d : Filling) → c < length columns → Holds (slice_index_or columns c d) (fields_at c rows) (fields_at c rows)

@@ -2,7 +2,7 @@
 --   unread reader    the bytes that are not read
 --   left reader      the records that are not read
 --   IsOpen reader    the reader reads plain records with csv's defaults, and stands between two of them
-use Rattle.std.specs.Prelude.{◌≡◌, ◌+◌, ℕ, Bool, false, List, [], length, Option, Some, IsSome, unwrap_or}
+use Rattle.std.specs.Prelude.{◌≡◌, ◌+◌, ℕ, false, List, [], length, Option, Some, IsSome, unwrap_or}
 use Rattle.std.specs.Borrow.{Bor}
 use Rattle.csv.specs.Machine.{ends_at_end}
 use Rattle.csv.specs.Reading.{Ready, default_config, source_of, records_from, reader_config, reader_state, reader_trim}

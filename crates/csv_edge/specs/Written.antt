@@ -1,7 +1,7 @@
 -- What a writer over memory has written.
 --   written w     the bytes that it has written
 --   IsIdle w      it writes with csv's defaults, and stands between two records
-use Rattle.std.specs.Prelude.{◌≡◌, ℕ, Bool, false, List, [], Option, Some, IsSome, unwrap_or, Vec}
+use Rattle.std.specs.Prelude.{◌≡◌, ℕ, false, List, [], Some, IsSome, unwrap_or, Vec}
 use Rattle.std.specs.Global.{Global}
 use Rattle.csv.specs.Writing.{default_writer, writer_setup, fields_written, has_written, text_written}
 use Rattle.csv.specs.declared.writer.Writer.{Writer}

@@ -7,13 +7,16 @@
 //! `cell_text`. What a file means is `read_csv` and `written_csv` of `run_model`, Csv, and both calls
 //! are equal to them.
 //!
-//! Reading looks at each field twice at the most, and takes memory of a few times the file's bytes;
-//! fields of logical and integer columns take no text of their own.
+//! The words of logical and integer columns are made as their records are read, so that no field is
+//! kept, and texts are kept where a column's first field is a text. A column that turns out to be of
+//! texts behind other fields, as 007 before x, makes the records be read once more. So reading is
+//! linear in the bytes, and its memory is the table and a record.
 #![tactic(auto)]
 
 mod check;
 mod columns;
 mod fail;
+mod filling;
 mod frame;
 mod names;
 mod read;

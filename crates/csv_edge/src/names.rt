@@ -2,13 +2,14 @@ ghost use Rattle.std.specs.Prelude.{◌≡◌, ◌<◌, ◌^◌, ◌++◌, ◌�
 ghost use Rattle.std.specs.Cmp.Lexicographic.{pointwise};
 ghost use Rattle.std.specs.Str.{bytes_eq};
 ghost use Rattle.csv.specs.Records.{fields_of};
+ghost use Rattle.csv_edge.specs.Taken.{TakenUpTo, TakenBelow};
 ghost use Rattle.run_model.specs.CsvNames as file;
 
 use crate::columns::field_at;
 use csv::StringRecord;
 use dt_base::{ColName, Text, Warn, Warns};
 use std::alloc::{AllocError, Global};
-use std::collections::HashSet;
+use std::collections::{HashMap, HashSet};
 use std::marker::Model;
 
 /// Names in order, with a set of them to look one up. Contracts see the list.
@@ -16,18 +17,25 @@ use std::marker::Model;
 pub(crate) struct Names {
     list: Vec<ColName>,
     set: HashSet<Text>,
+    // The last number that was put behind a name: it and all below it are taken. So no number is
+    // tried twice for one name, and many equal headers take no more time than others.
+    numbers: HashMap<Text, usize>,
 }
 
 impl Model for Names {
     ghost use Rattle.std.specs.Prelude.{◌≡◌, List, ℕ};
+    ghost use Rattle.std.specs.HashMap as hash;
     ghost use Rattle.std.specs.List.{list_any};
+    ghost use Rattle.std.specs.Option.{unwrap_or};
     ghost use Rattle.std.specs.Str.{bytes_eq};
+    ghost use Rattle.csv_edge.specs.Taken.{TakenUpTo};
 
     ghost Value = { List (List ℕ) };
 
     ghost view = { λ n. n.list.items };
 
-    ghost invariant = { λ n. (q : List ℕ) → list_any (bytes_eq q) n.set.keys ≡ list_any (bytes_eq q) n.list.items };
+    ghost invariant = { λ n. ((q : List ℕ) → list_any (bytes_eq q) n.set.keys ≡ list_any (bytes_eq q) n.list.items)
+        × ((q : List ℕ) → TakenUpTo (unwrap_or (hash.get bytes_eq n.numbers q) 0) q n.list.items) };
 }
 
 impl Names {
@@ -37,6 +45,7 @@ impl Names {
         Names {
             list: Vec::new(alloc),
             set: HashSet::new(alloc),
+            numbers: HashMap::new(alloc),
         }
     }
 
@@ -54,6 +63,25 @@ impl Names {
         self.set.contains(name)
     }
 
+    /// The last number that was put behind a name, or 0.
+    fn number_of(&self, name: &Text) -> usize
+        ensures { TakenUpTo result name.now self.now }
+    {
+        match self.numbers.get(name) {
+            Some(number) => *number,
+            None => 0,
+        }
+    }
+
+    /// Notes the last number that was put behind a name.
+    fn note(&mut self, name: Text, number: usize) -> Result<(), AllocError>
+        requires { TakenUpTo number name self.old }
+        ensures { OnOk result (self.new ≡ self.old) }
+    {
+        self.numbers.insert(name, number)?;
+        Ok(())
+    }
+
     /// Adds a name at the end. A refused name leaves the names.
     fn push(&mut self, name: Text) -> Result<(), AllocError>
         ensures { OnOk result (self.new ≡ self.old ++ name ∷ []) }
@@ -69,7 +97,11 @@ impl Names {
     fn into_list(self) -> Vec<ColName>
         ensures { result.items ≡ self }
     {
-        let Names { list, set: _ } = self;
+        let Names {
+            list,
+            set: _,
+            numbers: _,
+        } = self;
         list
     }
 }
@@ -84,8 +116,7 @@ pub(crate) fn column_names(alloc: Global, header: &StringRecord) -> Result<Vec<C
     let mut names = Names::new(alloc);
     for i in 0..header.len() {
         let base = base_name(alloc, field_at(header, i), i + 1)?;
-        let name = new_name(alloc, &names, base)?;
-        names.push(name)?;
+        push_new(alloc, &mut names, base)?;
     }
     Ok(names.into_list())
 }
@@ -127,25 +158,38 @@ fn base_name(alloc: Global, header: &str, place: usize) -> Result<Text, AllocErr
     Text::make(alloc, header)
 }
 
-/// The name, with a number where it stands already.
-fn new_name(alloc: Global, names: &Names, base: Text) -> Result<Text, AllocError>
-    ensures { IfOk result (λ name. name ≡ file.new_name names.now base) }
+/// Adds the name, with a number where it stands already.
+fn push_new(alloc: Global, names: &mut Names, base: Text) -> Result<(), AllocError>
+    ensures { OnOk result (names.new ≡ names.old ++ file.new_name names.old base ∷ []) }
 {
     if names.has(&base) {
-        numbered_new(alloc, names, base.as_str())
+        push_numbered(alloc, names, base)
     } else {
-        Ok(base)
+        names.push(base)
     }
 }
 
-/// The name with the least number from 1 on that makes it new.
-fn numbered_new(alloc: Global, names: &Names, base: &str) -> Result<Text, AllocError>
-    ensures { IfOk result (λ name. name ≡ file.numbered base.now (file.least_new names.now base.now)) }
+/// Adds the name with the least number that makes it new.
+fn push_numbered(alloc: Global, names: &mut Names, base: Text) -> Result<(), AllocError>
+    ensures { OnOk result (names.new ≡ names.old ++ file.numbered base (file.least_new names.old base) ∷ []) }
 {
-    for k in 1..names.len() + 2 {
-        let name = numbered(alloc, base, k)?;
+    let number = least_number(alloc, names, &base)?;
+    let name = numbered(alloc, base.as_str(), number)?;
+    names.push(name)?;
+    names.note(base, number)
+}
+
+/// The least number from 1 on that makes the name new.
+fn least_number(alloc: Global, names: &Names, base: &Text) -> Result<usize, AllocError>
+    ensures least { IfOk result (λ k. k ≡ file.least_new names.now base.now) }
+    ensures taken { IfOk result (λ k. TakenBelow k base.now names.now) }
+{
+    let len = names.len();
+    let last = names.number_of(base);
+    for k in last + 1..len + 2 {
+        let name = numbered(alloc, base.as_str(), k)?;
         if !names.has(&name) {
-            return Ok(name);
+            return Ok(k);
         }
     }
     unreachable!()

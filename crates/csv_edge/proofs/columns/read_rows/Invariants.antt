@@ -1,6 +1,7 @@
-use Rattle.std.proofs.Common.{◌≡◌, ◌<◌, ◌≤◌, ◌++◌, ℕ, get_or, length}
-use Rattle.csv.specs.Records.{Row, fields_of}
+use Rattle.std.proofs.Common.{◌≡◌, ◌<◌, ◌≤◌, ℕ, get_or, length}
+use Rattle.csv_edge.specs.Filling.{Gains}
 use Rattle.csv_edge.specs.Left.{left, IsOpen}
+use Rattle.csv_edge.specs.declared.filling.Filling.{Filling}
 use Rattle.run_model.specs.Csv.{rows_fault, fields_at}
 use Rattle.csv_edge.proofs.columns.read_rows.Given as goal
 
@@ -9,8 +10,8 @@ abbrev pub invariant-loop-raw : goal.invariant-loop-raw
 invariant-loop-raw l =
     IsOpen l.reader
     × (rows_fault (length l.fn.columns) l.before (left l.reader) ≡ rows_fault (length l.fn.columns) 0 (left l.fn.reader))
-    × ((c : ℕ) (d : Row) → c < length l.fn.columns
-    → fields_of (get_or l.columns c d) ++ fields_at c (left l.reader) ≡ fields_of (get_or l.fn.columns c d) ++ fields_at c (left l.fn.reader))
+    × ((c : ℕ) (d after : Filling) → c < length l.fn.columns
+    → Gains l.again (get_or l.columns c d) after (fields_at c (left l.reader)) → Gains l.again (get_or l.fn.columns c d) after (fields_at c (left l.fn.reader)))
     × (l.before ≤ 16777216)
 
 -- fewer records are left each time

@@ -1,6 +1,6 @@
 use Rattle.std.proofs.Common.{◌≡◌, ◌≤◌, ◌<◌, ℕ, true}
 use Rattle.run_model.specs.CsvNames.{is_among, numbered}
-use Rattle.csv_edge.proofs.names.numbered_new.Given as goal
+use Rattle.csv_edge.proofs.names.least_number.Given as goal
 
 -- the numbers before this one do not make the name new
 abbrev pub invariant-loop-k : goal.invariant-loop-k
