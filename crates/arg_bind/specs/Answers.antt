@@ -4,6 +4,7 @@
 --   IsStop f e           e is the fault f, or want of memory
 --   is_of_file c         a fault of this code blames a file that is read: absent, or too long
 --   IsOwn e              e blames no such file
+--   IsNoMemory e         e is want of memory
 use Rattle.std.specs.Prelude.{◌≡◌, Bool, true, false, Result, Ok, Err}
 use Rattle.dt_base.specs.declared.fault.Code.{Code}
 use Rattle.dt_base.specs.declared.fault.Code.TheVariants.{E15, E16}
@@ -35,3 +36,8 @@ is_of_file _ = false
 abbrev pub IsOwn : EvalFail → Type 0
 IsOwn (Stop f) = is_of_file f.code ≡ false
 IsOwn (NoMemory e) = Unit {0}
+
+-- it is want of memory
+abbrev pub IsNoMemory : EvalFail → Type 0
+IsNoMemory (Stop f) = ⊥
+IsNoMemory (NoMemory e) = Unit {0}

@@ -1,4 +1,6 @@
 ghost use Rattle.dt_base.specs.Fault.{fault};
+ghost use Rattle.expr_model.specs.Operators.{length_fault};
+ghost use Rattle.expr_model.specs.Unbuilt.{unbuilt};
 ghost use Rattle.session_model.specs.Value.{number_fault};
 ghost use Rattle.std.specs.Prelude.{◌≡◌, false};
 ghost use Rattle.arg_bind.specs.Answers.{IsStop, is_of_file, IsOwn};
@@ -49,4 +51,28 @@ pub fn stop_number(alloc: Global, code: Code, n: u64) -> EvalFail
         }),
         Err(error) => EvalFail::NoMemory(error),
     }
+}
+
+/// The fault of a length n where m is wanted, or want of memory.
+pub fn stop_length(alloc: Global, n: usize, m: usize) -> EvalFail
+    ensures fault { IsStop (length_fault n m) result }
+    ensures own { IsOwn result }
+{
+    match Text::make(alloc, "") {
+        Ok(what) => EvalFail::Stop(Fault {
+            code: Code::E05,
+            what,
+            n: n as u64,
+            m: m as u64,
+        }),
+        Err(error) => EvalFail::NoMemory(error),
+    }
+}
+
+/// The fault of a form of the language that nothing serves yet, or want of memory for its text.
+pub fn stop_unbuilt(alloc: Global) -> EvalFail
+    ensures fault { IsStop unbuilt result }
+    ensures own { IsOwn result }
+{
+    stop(alloc, Code::E19, "unbuilt")
 }

@@ -1,4 +1,3 @@
-pub mod Bindings
 pub mod Plain
 pub mod TextFacts
 pub mod Values

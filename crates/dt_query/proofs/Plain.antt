@@ -1,14 +1,15 @@
--- A table beside its plain reading: its columns with their names, and its number of rows.
+-- A table beside its plain reading: its columns with their names, and chosen rows.
 use Rattle.std.proofs.Common.{◌≡◌, ◌+◌, ◌++◌, ℕ, suc, List, [], ◌∷◌, length, map, All, refl, sym, ap, ◌∙◌, arith}
 use Rattle.std.specs.List.{range_with_len}
 use Rattle.std.proofs.lemmas.List.{append_assoc, length-append, length-map}
 use Rattle.std.proofs.lemmas.Simd.{map-map}
 use Rattle.std.proofs.lemmas.List.Elements.{All-head, All-tail}
-use Rattle.std.proofs.lemmas.List.FromFn.{fill_by_all, length-map-range_with_len}
+use Rattle.std.proofs.lemmas.List.FromFn.{fill_by_all}
 use Rattle.dt_base.specs.declared.cell.Cell.{Cell}
 use Rattle.dt_base.specs.declared.cell.Cell.TheVariants as is
 use Rattle.dt_model.specs.Table.{ColumnHead, column_of, heads_of, row_at, rows_of}
 use Rattle.dt_model.specs.Vector.{Vector, cell_at, gathered}
+use Rattle.dt_table.proofs.Plain.{plain_names, plain_rows, vectors_count}
 use Rattle.dt_table.specs.Plain.{plain}
 use Rattle.dt_table.specs.Table.{TableSeen, IsTable}
 use Rattle.expr_eval.specs.Scope.{columns_of}
@@ -52,44 +53,18 @@ vectors_read (name ∷ names) done (c ∷ columns) n h a =
     ∙ vectors_read names (done ++ c.vector ∷ []) columns n (omega (arith, h)) (All-tail (HasLength n) c columns a) in
     λ j. vector_read c.vector (column_of (length done) (rows_of n (done ++ c.vector ∷ rest))) here j ∷ behind j
 
-names_read : (names : List (List ℕ)) (vectors : List Vector) → length names ≡ length vectors → map (λ (h : ColumnHead). h.name) (heads_of names vectors) ≡ names
-names_read [] [] e = refl
-names_read [] (v ∷ vectors) e = refl
-names_read (name ∷ names) [] e = absurd (omega (arith, e))
-names_read (name ∷ names) (v ∷ vectors) e = ap (λ rest. name ∷ rest) (names_read names vectors (omega (arith, e)))
-
-heads_count : (names : List (List ℕ)) (vectors : List Vector) → length names ≡ length vectors → length (heads_of names vectors) ≡ length names
-heads_count [] [] e = refl
-heads_count [] (v ∷ vectors) e = refl
-heads_count (name ∷ names) [] e = absurd (omega (arith, e))
-heads_count (name ∷ names) (v ∷ vectors) e = ap suc (heads_count names vectors (omega (arith, e)))
-
-vectors_count : (columns : List Seen) → length (vectors_of columns) ≡ length columns
-vectors_count columns = length-map columns (λ (c : Seen). c.vector)
-
 -- ---- What a table's plain reading has
-
-pub plain_rows : (t : TableSeen) → length (plain t).rows ≡ t.frame.rows
-plain_rows t = length-map-range_with_len (row_at (vectors_of t.frame.columns)) 0 t.frame.rows
-
-pub plain_width : (t : TableSeen) → IsTable t → length (plain t).columns ≡ length t.frame.columns
-plain_width t h = heads_count t.names (vectors_of t.frame.columns) (h.named ∙ sym (vectors_count t.frame.columns)) ∙ h.named
-
-pub plain_names : (t : TableSeen) → IsTable t → (columns_in (plain t)).names ≡ t.names
-plain_names t h = names_read t.names (vectors_of t.frame.columns) (h.named ∙ sym (vectors_count t.frame.columns))
 
 pub plain_vectors : (t : TableSeen) → IsTable t → (columns_in (plain t)).vectors ≡ vectors_of t.frame.columns
 plain_vectors t h = vectors_read t.names [] t.frame.columns t.frame.rows h.named h.frame.one_length
 
 -- the columns of the plain reading are the frame's own, under the table's names
-pub plain_columns : (t : TableSeen) → IsTable t → columns_in (plain t) ≡ columns_of t.names t.frame
-plain_columns t h = λ j. record { names = plain_names t h j; vectors = plain_vectors t h j }
-
-pub ruleset counts = (plain_rows, plain_width)
+pub columns_read : (t : TableSeen) → IsTable t → columns_in (plain t) ≡ columns_of t.names t.frame
+columns_read t h = λ j. record { names = plain_names t h j; vectors = plain_vectors t h j }
 
 -- what an expression meets over all rows of a table
 pub whole_env : (t : TableSeen) (vars : Vars) (places : Places) → IsTable t → places ≡ all_rows t.frame.rows → in_rows (columns_of t.names t.frame) places vars ≡ whole_rows (plain t) vars
-whole_env t vars places h p = λ j. in_rows (sym (plain_columns t h) j) ((p ∙ ap all_rows (sym (plain_rows t))) j) vars
+whole_env t vars places h p = λ j. in_rows (sym (columns_read t h) j) ((p ∙ ap all_rows (sym (plain_rows t))) j) vars
 
 -- ---- Chosen rows of a table
 

@@ -9,6 +9,7 @@ use Rattle.dt_model.specs.Vector.{Vector}
 use Rattle.dt_table.specs.Plain.{plain}
 use Rattle.dt_table.specs.Table.{TableSeen}
 use Rattle.dt_tree.specs.declared.tree.Arg.{Arg}
+use Rattle.expr_eval.proofs.Vectors.{same_vectors}
 use Rattle.expr_model.specs.Lengths.{common_length, repeated}
 use Rattle.expr_model.specs.Surroundings.{Env}
 use Rattle.na_vector.specs.Frame.{FrameSeen, rows_with, vectors_of}
@@ -19,10 +20,6 @@ use Rattle.session_model.specs.Value.{new_table}
 use Rattle.vec_funcs.specs.Valued.{valued_of, vector_in}
 use Rattle.vec_funcs.specs.declared.valued.Valued.{Valued}
 use Rattle.vector_model.specs.Then.{then_do}
-
-pub same_vectors : (values : List Valued) → map session.vector_in (map valued_of values) ≡ map vector_in values
-same_vectors [] = refl
-same_vectors (v ∷ values) = ap (λ vs. vector_in v ∷ vs) (same_vectors values)
 
 -- each brought to one length
 pub same_repeated : (n : ℕ) (values : List Valued) → map (λ (v : Valued). repeated n v.column.vector) values ≡ map (repeated n) (map session.vector_in (map valued_of values))
@@ -43,8 +40,6 @@ table_of_values names values n f r h e k a =
     let common : list_table names vs ≡ new_table names n (map (repeated n) vs) =
     ap (λ o. then_do o (λ m. new_table names m (map (repeated m) vs))) (ap common_length (same_vectors values) ∙ h) in
     subst (λ o. AnswersAs plain o r) (sym (common ∙ table)) a
-
-pub ruleset values = same_vectors
 
 -- ---- A list of no item, or of more
 

@@ -4,35 +4,16 @@ use Rattle.dt_query.specs.Forms.{not_name_in}
 use Rattle.expr_model.specs.Surroundings.{Env}
 use Rattle.func_table.specs.Special.{special_of}
 use Rattle.session_model.specs.Columns.{form_name, numbered_name, special_name}
-use Rattle.session_model.specs.Form.{Form, Literal, Negative, NullWord, InfWord, BareName, NotName, Other, name_in, text_in}
+use Rattle.session_model.specs.Form.{Form, Literal, Negative, NullWord, InfWord, BareName, NotName, Other, name_in}
 use Rattle.session_model.specs.Meaning.{minus_form, not_form}
 use Rattle.session_model.specs.Meanings.{Meaning}
 use Rattle.session_model.specs.Query.{checked_value, i_by_form, i_name, i_not_name}
 
--- ---- `-` before an expression is no name and no text
-
-pub name_in-minus : (o : Option ℤ) → name_in (minus_form o) ≡ None
-name_in-minus None = refl
-name_in-minus (Some n) = refl
+-- ---- `-` before an expression is no negated name, and `!` before a name is one
 
 pub not_name_in-minus : (o : Option ℤ) → not_name_in (minus_form o) ≡ None
 not_name_in-minus None = refl
 not_name_in-minus (Some n) = refl
-
-pub text_in-minus : (o : Option ℤ) → text_in (minus_form o) ≡ None
-text_in-minus None = refl
-text_in-minus (Some n) = refl
-
--- ---- nor is `!`, but before a bare name
-
-pub name_in-not : (f : Form) → name_in (not_form f) ≡ None
-name_in-not (Literal cell kind) = refl
-name_in-not (Negative n) = refl
-name_in-not NullWord = refl
-name_in-not InfWord = refl
-name_in-not (BareName name) = refl
-name_in-not (NotName name) = refl
-name_in-not Other = refl
 
 pub not_name_in-not : (f : Form) → not_name_in (not_form f) ≡ name_in f
 not_name_in-not (Literal cell kind) = refl
@@ -43,16 +24,7 @@ not_name_in-not (BareName name) = refl
 not_name_in-not (NotName name) = refl
 not_name_in-not Other = refl
 
-pub text_in-not : (f : Form) → text_in (not_form f) ≡ None
-text_in-not (Literal cell kind) = refl
-text_in-not (Negative n) = refl
-text_in-not NullWord = refl
-text_in-not InfWord = refl
-text_in-not (BareName name) = refl
-text_in-not (NotName name) = refl
-text_in-not Other = refl
-
-pub ruleset forms = (name_in-minus, not_name_in-minus, text_in-minus, name_in-not, not_name_in-not, text_in-not)
+pub ruleset forms = (not_name_in-minus, not_name_in-not)
 
 -- ---- What an i of each form means
 

@@ -1,10 +1,8 @@
--- Why something is not made.
---   IsNoMemory e       it is want of memory
+-- Why a table is not made.
 --   IsMakeStop ns e r  r is the fault of a table of columns ns that is refused by e
 use Rattle.std.specs.Prelude.{List, [], ℕ}
-use Rattle.arg_bind.specs.Answers.{IsStop}
+use Rattle.arg_bind.specs.Answers.{IsStop, IsNoMemory}
 use Rattle.arg_bind.specs.declared.fail.EvalFail.{EvalFail}
-use Rattle.arg_bind.specs.declared.fail.EvalFail.TheVariants as eval
 use Rattle.dt_base.specs.Fault.{fault}
 use Rattle.dt_base.specs.declared.fault.Code.TheVariants.{E07, E08, E09, E12}
 use Rattle.dt_base.specs.declared.limits.TheConstants.{MAX_COLUMNS}
@@ -12,11 +10,6 @@ use Rattle.dt_model.specs.Table.{name_at}
 use Rattle.dt_table.specs.declared.make.MakeFail.{MakeFail}
 use Rattle.dt_table.specs.declared.make.MakeFail.TheVariants as refused
 use Rattle.session_model.specs.Value.{number_fault}
-
--- it is want of memory
-abbrev pub IsNoMemory : EvalFail → Type 0
-IsNoMemory (eval.Stop f) = ⊥
-IsNoMemory (eval.NoMemory e) = Unit {0}
 
 -- the fault of a table of columns of these names that is refused so
 abbrev pub IsMakeStop : List (List ℕ) → MakeFail → EvalFail → Type 0

@@ -1,16 +1,14 @@
-ghost use Rattle.std.specs.Prelude.{◌≡◌, ◌≤◌, ◌⊎◌, ◌∷◌, ◌++◌, [], IfOk, OnOk, IfErr, All, length, map};
+ghost use Rattle.std.specs.Prelude.{◌≡◌, ◌≤◌, ◌⊎◌, IfOk, IfErr, All, length, map};
 ghost use Rattle.arg_bind.specs.Answers.{AnswersAs, IsOwn};
-ghost use Rattle.dt_base.specs.Warns.{no_warns};
 ghost use Rattle.dt_base.specs.declared.limits.TheConstants.{MAX_ROWS};
 ghost use Rattle.dt_query.specs.Answers.{plain_answer};
-ghost use Rattle.dt_query.specs.Refusals.{IsNoMemory};
 ghost use Rattle.dt_table.specs.Plain.{plain};
 ghost use Rattle.dt_table.specs.Table.{IsFilled};
 ghost use Rattle.expr_eval.specs.Scope.{env_of, IsScope};
 ghost use Rattle.expr_model.specs.Lengths.{repeated};
 ghost use Rattle.na_vector.specs.Frame.{rows_with, vectors_of};
 ghost use Rattle.session_model.specs.Columns.{columns_answer, list_answer, list_table, values_answer};
-ghost use Rattle.session_model.specs.Expression.{each, vector_in, warns_of_all};
+ghost use Rattle.session_model.specs.Expression.{vector_in};
 ghost use Rattle.session_model.specs.Meaning.{arg_meaning};
 ghost use Rattle.vec_funcs.specs.Valued.{valued_of};
 
@@ -18,76 +16,15 @@ use crate::names::item_names;
 use crate::tables::new_table;
 use crate::{Answer, Outcome};
 use arg_bind::{EvalFail, stop};
-use dt_base::{Code, ColName, ColType, Steps, Warns};
+use dt_base::{Code, ColName, Steps};
 use dt_table::Table;
 use dt_tree::Arg;
-use expr_eval::{Scope, Vars, check, eval};
+use expr_eval::{Scope, Vars, kinds_of_each, values_of_each, warns_of_values};
 use na_vector::Frame;
 use row_choice::{common_length, repeated};
 use std::alloc::{AllocError, Global};
 use std::sync::ledger::Ledger;
 use vec_funcs::Valued;
-
-/// Puts one more at the end.
-fn add<T: Drop>(list: &mut Vec<T>, x: T) -> Result<(), EvalFail>
-    ensures ok { OnOk result (list.new.items ≡ list.old.items ++ x ∷ []) }
-    ensures err { IfErr result IsNoMemory }
-    ensures own { IfErr result IsOwn }
-{
-    match list.push(x) {
-        Ok(()) => Ok(()),
-        Err(_) => Err(EvalFail::NoMemory(AllocError)),
-    }
-}
-
-/// The types of all items, or the first fault.
-fn kinds_of<V: Vars>(
-    alloc: Global,
-    args: &[Arg],
-    s: &Scope<'_, V>,
-) -> Result<Vec<ColType>, EvalFail>
-    requires { IsScope s.now }
-    ensures answer { AnswersAs (λ v. v.items) (each (λ m. m.check (env_of V.bound s.now)) [] (map arg_meaning args.now)) result }
-    ensures own { IfErr result IsOwn }
-{
-    let mut kinds = Vec::new(alloc);
-    for arg in args {
-        let kind = check(alloc, &arg.value, s)?;
-        add(&mut kinds, kind)?;
-    }
-    Ok(kinds)
-}
-
-/// The values of all items, or the first fault.
-fn values_of<V: Vars, L: Ledger>(
-    alloc: Global,
-    args: &[Arg],
-    s: &Scope<'_, V>,
-    steps: &mut Steps<L>,
-) -> Result<Vec<Valued>, EvalFail>
-    requires { IsScope s.now }
-    ensures answer { AnswersAs (λ v. map valued_of v.items) (each (λ m. m.value (env_of V.bound s.now)) [] (map arg_meaning args.now)) result }
-    ensures count { IfOk result (λ v. length v.items ≡ length args.now) }
-    ensures own { IfErr result IsOwn }
-{
-    let mut values = Vec::new(alloc);
-    for arg in args {
-        let value = eval(alloc, &arg.value, s, steps)?;
-        add(&mut values, value)?;
-    }
-    Ok(values)
-}
-
-/// The warnings of all values.
-fn warns_of(values: &[Valued]) -> Warns
-    ensures { result ≡ warns_of_all no_warns (map valued_of values.now) }
-{
-    let mut warns = Warns::none();
-    for value in values {
-        warns = warns.both(value.warns);
-    }
-    warns
-}
 
 /// The columns of the values, each brought to n cells.
 fn repeated_columns<L: Ledger>(
@@ -110,7 +47,7 @@ fn repeated_columns<L: Ledger>(
 }
 
 /// The table of the values, each brought to the length of the longest.
-#[tactic(auto, using(crate::proofs::Values::values))]
+#[tactic(auto, using(expr_eval::proofs::Vectors::same_vectors))]
 fn list_table<L: Ledger>(
     alloc: Global,
     names: &[ColName],
@@ -139,7 +76,7 @@ fn values_answer<L: Ledger>(
     ensures answer { AnswersAs plain_answer (values_answer names.now (map valued_of values.items)) result }
     ensures own { IfErr result IsOwn }
 {
-    let warns = warns_of(&values);
+    let warns = warns_of_values(&values);
     let table = list_table(alloc, names, values, steps)?;
     Ok(Answer {
         outcome: Outcome::Table(table),
@@ -164,8 +101,8 @@ pub fn columns<V: Vars, L: Ledger>(
     ensures answer { AnswersAs plain_answer (columns_answer (map arg_meaning args.now) (env_of V.bound s.now)) result }
     ensures own { IfErr result IsOwn }
 {
-    kinds_of(alloc, args, s)?;
-    let values = values_of(alloc, args, s, steps)?;
+    kinds_of_each(alloc, args, s)?;
+    let values = values_of_each(alloc, args, s, steps)?;
     let names = item_names(alloc, s, args)?;
     values_answer(alloc, &names, values, steps)
 }

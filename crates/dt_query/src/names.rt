@@ -7,7 +7,7 @@ ghost use Rattle.func_table.specs.Special.{special_of};
 ghost use Rattle.session_model.specs.Columns.{numbered_name, is_column, special_name, form_name, unwritten_name, column_name, item_name, item_names};
 ghost use Rattle.session_model.specs.Meaning.{meaning, arg_meaning};
 
-use crate::forms::bare_name;
+use arg_bind::bare_name;
 use dt_base::{ColName, Text};
 use dt_tree::{Arg, Expr};
 use expr_eval::{Scope, Vars};

@@ -17,8 +17,8 @@ use crate::scopes::{chosen_scope, whole_scope};
 use crate::second::answer_of;
 use crate::tables::new_table;
 use crate::{Answer, Options, Outcome};
-use arg_bind::{EvalFail, stop};
-use dt_base::{Code, Steps, Warns};
+use arg_bind::{EvalFail, stop_unbuilt};
+use dt_base::{Steps, Warns};
 use dt_table::Table;
 use dt_tree::{Bracket, Expr, Second};
 use expr_eval::Vars;
@@ -57,8 +57,8 @@ fn second_over_all<V: Vars, L: Ledger>(
 {
     match second {
         Second::Value(j) => answer_over_all(alloc, j, x, vars, steps),
-        Second::Assign { left: _, right: _ } => Err(stop(alloc, Code::E19, "unbuilt")),
-        Second::AssignAll { args: _ } => Err(stop(alloc, Code::E19, "unbuilt")),
+        Second::Assign { left: _, right: _ } => Err(stop_unbuilt(alloc)),
+        Second::AssignAll { args: _ } => Err(stop_unbuilt(alloc)),
     }
 }
 
@@ -155,8 +155,8 @@ fn second_answer<V: Vars, L: Ledger>(
 {
     match second {
         Second::Value(j) => answer_over(alloc, j, x, vars, chosen, steps),
-        Second::Assign { left: _, right: _ } => Err(stop(alloc, Code::E19, "unbuilt")),
-        Second::AssignAll { args: _ } => Err(stop(alloc, Code::E19, "unbuilt")),
+        Second::Assign { left: _, right: _ } => Err(stop_unbuilt(alloc)),
+        Second::AssignAll { args: _ } => Err(stop_unbuilt(alloc)),
     }
 }
 
@@ -245,7 +245,7 @@ pub fn run_query<V: Vars, L: Ledger>(
     ensures own { IfErr result IsOwn }
 {
     match &q.third {
-        Some(_) => Err(stop(alloc, Code::E19, "unbuilt")),
+        Some(_) => Err(stop_unbuilt(alloc)),
         None => parts_answer(alloc, q, x, vars, steps),
     }
 }

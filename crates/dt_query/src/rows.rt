@@ -11,9 +11,9 @@ ghost use Rattle.session_model.specs.Query.{checked_value, i_variable, i_name, i
 ghost use Rattle.vec_funcs.specs.Valued.{valued_of};
 ghost use Rattle.vector_model.specs.Then.{then_do};
 
-use crate::forms::{bare_name, negated_name};
+use crate::forms::negated_name;
 use crate::scopes::whole_scope;
-use arg_bind::{EvalFail, stop};
+use arg_bind::{EvalFail, bare_name, stop, stop_unbuilt};
 use dt_base::{Code, Steps, Warns};
 use dt_table::Table;
 use dt_tree::Expr;
@@ -60,7 +60,7 @@ fn of_columns(alloc: Global, width: usize, positions: Vec<Option<u32>>) -> Vec<O
 }
 
 /// The rows that a value of i chooses.
-#[tactic(auto, using(crate::proofs::Plain::counts))]
+#[tactic(auto, using(dt_table::proofs::Plain::counts))]
 fn rows_by<L: Ledger>(
     alloc: Global,
     x: &Table,
@@ -99,7 +99,7 @@ fn valued_rows<V: Vars, L: Ledger>(
 
 /// The rows that the vector of a script's name chooses. The name of a table is not served, and any
 /// other is E02 with it.
-#[tactic(auto, using(crate::proofs::Bindings::bindings))]
+#[tactic(auto, using(expr_eval::proofs::Bindings::i_bindings))]
 fn variable_rows<V: Vars, L: Ledger>(
     alloc: Global,
     name: &str,
@@ -114,7 +114,7 @@ fn variable_rows<V: Vars, L: Ledger>(
     match vars.vector(name) {
         Some(column) => rows_by(alloc, x, column, Warns::none(), steps),
         None => match vars.table(name) {
-            Some(_) => Err(stop(alloc, Code::E19, "unbuilt")),
+            Some(_) => Err(stop_unbuilt(alloc)),
             None => Err(stop(alloc, Code::E02, name)),
         },
     }
@@ -142,7 +142,7 @@ fn name_rows<V: Vars, L: Ledger>(
 
 /// The rows that `!` before a name chooses that is no special one. Where a table has the name it is
 /// not served.
-#[tactic(auto, using(crate::proofs::Bindings::bindings))]
+#[tactic(auto, using(expr_eval::proofs::Bindings::i_bindings))]
 fn not_variable_rows<V: Vars, L: Ledger>(
     alloc: Global,
     e: &Expr,
@@ -157,7 +157,7 @@ fn not_variable_rows<V: Vars, L: Ledger>(
     ensures own { IfErr result IsOwn }
 {
     match s.vars.table(name) {
-        Some(_) => Err(stop(alloc, Code::E19, "unbuilt")),
+        Some(_) => Err(stop_unbuilt(alloc)),
         None => valued_rows(alloc, e, x, s, steps),
     }
 }

@@ -8,11 +8,10 @@ ghost use Rattle.session_model.specs.Columns.{text_columns, vector_answer};
 ghost use Rattle.session_model.specs.Form.{text_in};
 ghost use Rattle.session_model.specs.Meaning.{meaning, arg_meaning, one_text, texts_or};
 
-use crate::forms::text_literal;
 use crate::lists::list_answer;
 use crate::texts::{call_texts, text_columns};
 use crate::{Answer, Outcome};
-use arg_bind::EvalFail;
+use arg_bind::{EvalFail, text_literal};
 use dt_base::{ColName, Steps, Text};
 use dt_tree::{Arg, Expr};
 use expr_eval::{Scope, Vars, check, eval};

@@ -15,11 +15,10 @@ ghost use Rattle.session_model.specs.Value.{new_table};
 ghost use Rattle.vec_funcs.specs.Valued.{vector_of};
 ghost use Rattle.vector_model.specs.Then.{then_do};
 
-use crate::forms::text_literal;
 use crate::names::column_named;
 use crate::tables::new_table;
 use crate::{Answer, Outcome};
-use arg_bind::{EvalFail, stop};
+use arg_bind::{EvalFail, stop, text_literal};
 use dt_base::{Code, ColName, Steps, Text, Warns};
 use dt_table::Table;
 use dt_tree::Arg;

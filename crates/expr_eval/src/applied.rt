@@ -8,8 +8,8 @@ ghost use Rattle.vec_funcs.specs.Valued.{valued_of};
 
 use crate::operands::Operand;
 use crate::operations::{choice_value, conversion, na_test};
-use arg_bind::{EvalFail, stop};
-use dt_base::{Code, ColType, Steps, Warns};
+use arg_bind::{EvalFail, stop_unbuilt};
+use dt_base::{ColType, Steps, Warns};
 use func_table::{Func, Slot};
 use na_vector::Column;
 use std::alloc::Global;
@@ -36,7 +36,7 @@ fn one_value<L: Ledger>(
         Func::First => first(alloc, x, steps),
         Func::Last => last(alloc, x, steps),
         Func::Length => length(alloc, x),
-        _ => Err(stop(alloc, Code::E19, "unbuilt")),
+        _ => Err(stop_unbuilt(alloc)),
     }
 }
 
@@ -55,7 +55,7 @@ fn flagged_value<L: Ledger>(
         Func::Sum => sum(alloc, x, na_rm, steps),
         Func::Min => min(alloc, x, na_rm, steps),
         Func::Max => max(alloc, x, na_rm, steps),
-        _ => Err(stop(alloc, Code::E19, "unbuilt")),
+        _ => Err(stop_unbuilt(alloc)),
     }
 }
 
@@ -73,7 +73,7 @@ fn three_value<L: Ledger>(
 {
     match f {
         Func::Fifelse => choice_value(alloc, test, a, b, steps),
-        _ => Err(stop(alloc, Code::E19, "unbuilt")),
+        _ => Err(stop_unbuilt(alloc)),
     }
 }
 
@@ -88,7 +88,7 @@ fn value_of_one<L: Ledger>(
 {
     match x {
         Slot::Given(x) => one_value(alloc, f, x.column(), steps),
-        Slot::Flag(_) | Slot::Absent => Err(stop(alloc, Code::E19, "unbuilt")),
+        Slot::Flag(_) | Slot::Absent => Err(stop_unbuilt(alloc)),
     }
 }
 
@@ -106,7 +106,7 @@ fn value_of_two<L: Ledger>(
     match (x, flag) {
         (Slot::Given(x), Slot::Absent) => flagged_value(alloc, f, false, x.column(), steps),
         (Slot::Given(x), Slot::Flag(b)) => flagged_value(alloc, f, *b, x.column(), steps),
-        _ => Err(stop(alloc, Code::E19, "unbuilt")),
+        _ => Err(stop_unbuilt(alloc)),
     }
 }
 
@@ -125,7 +125,7 @@ fn value_of_three<L: Ledger>(
         (Slot::Given(test), Slot::Given(a), Slot::Given(b)) => {
             three_value(alloc, f, test.column(), a.column(), b.column(), steps)
         }
-        _ => Err(stop(alloc, Code::E19, "unbuilt")),
+        _ => Err(stop_unbuilt(alloc)),
     }
 }
 
@@ -141,11 +141,11 @@ fn func_value<L: Ledger>(
     ensures own { IfErr result IsOwn }
 {
     match given {
-        [] => Err(stop(alloc, Code::E19, "unbuilt")),
+        [] => Err(stop_unbuilt(alloc)),
         [x] => value_of_one(alloc, f, x, steps),
         [x, y] => value_of_two(alloc, f, x, y, steps),
         [x, y, z] => value_of_three(alloc, f, x, y, z, steps),
-        [_, _, _, _, ..] => Err(stop(alloc, Code::E19, "unbuilt")),
+        [_, _, _, _, ..] => Err(stop_unbuilt(alloc)),
     }
 }
 
@@ -187,7 +187,7 @@ pub fn applied<L: Ledger>(
 }
 
 /// The warnings of all values.
-fn warns_of_values(values: &[Valued]) -> Warns
+pub fn warns_of_values(values: &[Valued]) -> Warns
     ensures { result ≡ warns_of_all no_warns (map valued_of values.now) }
 {
     let mut all = Warns::none();

@@ -1,6 +1,5 @@
 ghost use Rattle.std.specs.Prelude.{◌≡◌, ◌+◌, ◌<◌, ◌++◌, ◌∷◌, [], cond, map, Some, OnOk, IfErr};
-ghost use Rattle.arg_bind.specs.Answers.{Answers, AnswersAs, IsStop, IsOwn};
-ghost use Rattle.expr_eval.specs.Refusals.{IsNoMemory};
+ghost use Rattle.arg_bind.specs.Answers.{Answers, AnswersAs, IsStop, IsOwn, IsNoMemory};
 ghost use Rattle.expr_eval.specs.Scope.{argument_seen, env_of, table_lent};
 ghost use Rattle.session_model.specs.Expression.{names_in, arg_at, flag_slot, table_at, table_in, described_table, later_fault};
 ghost use Rattle.session_model.specs.Meaning.{meaning, arg_meaning};
@@ -10,7 +9,7 @@ ghost use Rattle.session_model.specs.Form.{name_in};
 
 use crate::names::var_table;
 use crate::{Scope, Vars};
-use arg_bind::{EvalFail, place, stop};
+use arg_bind::{EvalFail, place, stop, stop_unbuilt};
 use dt_base::{Cell, Code, ColType};
 use dt_table::Table;
 use dt_tree::{Arg, Expr};
@@ -91,7 +90,7 @@ pub fn later_call(alloc: Global, name: &str) -> EvalFail
 {
     match later_named(name) {
         None => stop(alloc, Code::E02, name),
-        Some(Later::Vector) => stop(alloc, Code::E19, "unbuilt"),
+        Some(Later::Vector) => stop_unbuilt(alloc),
         Some(Later::NoVector) => stop(alloc, Code::E04, name),
         Some(Later::Command) => stop(alloc, Code::E19, name),
     }

@@ -13,7 +13,7 @@ use crate::arguments::{add, flag_given, later_call, table_given};
 use crate::kinds::{description_type, func_type, sign_type, tail_type};
 use crate::names::name_kind;
 use crate::{Scope, Vars};
-use arg_bind::{EvalFail, bind, next, place, stop};
+use arg_bind::{EvalFail, bind, next, place, stop, stop_unbuilt};
 use dt_base::{Code, ColType, UnOp};
 use dt_tree::{Arg, Expr, Tail};
 use func_table::{
@@ -168,7 +168,7 @@ fn check_bound<V: Vars>(
     match arity_of(f) {
         Arity::Unnamed => check_each(alloc, args, s),
         Arity::Fixed => check_fixed(alloc, f, args, s),
-        Arity::Columns => Err(stop(alloc, Code::E19, "unbuilt")),
+        Arity::Columns => Err(stop_unbuilt(alloc)),
     }
 }
 
@@ -193,8 +193,9 @@ fn common_kind(kinds: &[ColType]) -> ColType
     all
 }
 
+/// The types of all arguments in order, or the first fault.
 #[cycle(check)]
-fn kinds_of_each<V: Vars>(
+pub fn kinds_of_each<V: Vars>(
     alloc: Global,
     args: &[Arg],
     s: &Scope<'_, V>,

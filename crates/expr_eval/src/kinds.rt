@@ -5,7 +5,7 @@ ghost use Rattle.expr_model.specs.Functions.{type_of, type_of_one, type_of_two, 
 ghost use Rattle.expr_model.specs.Operators.{op_word, unary_word, typed_as, range_type, tail_type, sign_type};
 ghost use Rattle.vector_model.specs.Functions.{sum_type, any_type, all_type, extreme_type};
 
-use arg_bind::{EvalFail, stop};
+use arg_bind::{EvalFail, stop, stop_unbuilt};
 use dt_base::{Code, ColType, Op, UnOp};
 use dt_tree::BinOp;
 use func_table::{Func, Slot};
@@ -158,7 +158,7 @@ fn one_type(alloc: Global, f: Func, kind: ColType) -> Result<ColType, EvalFail>
         Func::Any => any_type(alloc, kind),
         Func::All => all_type(alloc, kind),
         Func::First | Func::Last => Ok(kind),
-        _ => Err(stop(alloc, Code::E19, "unbuilt")),
+        _ => Err(stop_unbuilt(alloc)),
     }
 }
 
@@ -170,7 +170,7 @@ fn flagged_type(alloc: Global, f: Func, kind: ColType) -> Result<ColType, EvalFa
     match f {
         Func::Sum => sum_type(alloc, kind),
         Func::Min | Func::Max => Ok(extreme_type(kind)),
-        _ => Err(stop(alloc, Code::E19, "unbuilt")),
+        _ => Err(stop_unbuilt(alloc)),
     }
 }
 
@@ -187,7 +187,7 @@ fn three_type(
 {
     match f {
         Func::Fifelse => choice_type(alloc, test, a, b),
-        _ => Err(stop(alloc, Code::E19, "unbuilt")),
+        _ => Err(stop_unbuilt(alloc)),
     }
 }
 
@@ -197,7 +197,7 @@ fn type_of_one(alloc: Global, f: Func, x: &Slot<ColType>) -> Result<ColType, Eva
 {
     match x {
         Slot::Given(kind) => one_type(alloc, f, *kind),
-        Slot::Flag(_) | Slot::Absent => Err(stop(alloc, Code::E19, "unbuilt")),
+        Slot::Flag(_) | Slot::Absent => Err(stop_unbuilt(alloc)),
     }
 }
 
@@ -213,7 +213,7 @@ fn type_of_two(
     match (x, flag) {
         (Slot::Given(kind), Slot::Absent) => flagged_type(alloc, f, *kind),
         (Slot::Given(kind), Slot::Flag(_)) => flagged_type(alloc, f, *kind),
-        _ => Err(stop(alloc, Code::E19, "unbuilt")),
+        _ => Err(stop_unbuilt(alloc)),
     }
 }
 
@@ -229,7 +229,7 @@ fn type_of_three(
 {
     match (test, a, b) {
         (Slot::Given(test), Slot::Given(a), Slot::Given(b)) => three_type(alloc, f, *test, *a, *b),
-        _ => Err(stop(alloc, Code::E19, "unbuilt")),
+        _ => Err(stop_unbuilt(alloc)),
     }
 }
 
@@ -241,11 +241,11 @@ pub fn func_type(alloc: Global, f: Func, given: &[Slot<ColType>]) -> Result<ColT
     ensures own { IfErr result IsOwn }
 {
     match given {
-        [] => Err(stop(alloc, Code::E19, "unbuilt")),
+        [] => Err(stop_unbuilt(alloc)),
         [x] => type_of_one(alloc, f, x),
         [x, y] => type_of_two(alloc, f, x, y),
         [x, y, z] => type_of_three(alloc, f, x, y, z),
-        [_, _, _, _, ..] => Err(stop(alloc, Code::E19, "unbuilt")),
+        [_, _, _, _, ..] => Err(stop_unbuilt(alloc)),
     }
 }
 
@@ -257,6 +257,6 @@ pub fn description_type(alloc: Global, f: Func) -> Result<ColType, EvalFail>
     match f {
         Func::Nrow | Func::Ncol => Ok(ColType::Int),
         Func::Names => Ok(ColType::Chr),
-        _ => Err(stop(alloc, Code::E19, "unbuilt")),
+        _ => Err(stop_unbuilt(alloc)),
     }
 }

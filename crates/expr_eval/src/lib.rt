@@ -2,6 +2,7 @@
 //!
 //! - `check` gives the type of an expression, or its first fault, and looks at no cell.
 //! - `eval` gives its value with its warnings, or its first fault.
+//! - `kinds_of_each`, `values_of_each` and `warns_of_values` do the same for a list of arguments.
 //! - `Scope` is what an expression meets: the columns of its rows, the columns of the one row that all
 //!   rows share, the rows' positions, the numbers of `.N` and `.GRP`, and the script's names, which
 //!   stand behind the trait `Vars`.
@@ -30,7 +31,8 @@ mod scope;
 mod tables;
 mod values;
 
-pub use checks::check;
+pub use applied::warns_of_values;
+pub use checks::{check, kinds_of_each};
 pub use names::{is_column, row_column};
 pub use scope::{Scope, Vars};
-pub use values::eval;
+pub use values::{eval, values_of_each};

@@ -1,42 +1,26 @@
 ghost use Rattle.std.specs.Prelude.{◌≡◌, Ok, codes, IfErr};
-ghost use Rattle.arg_bind.specs.Answers.{AnswersAs, IsStop, IsOwn};
+ghost use Rattle.arg_bind.specs.Answers.{AnswersAs, IsOwn};
 ghost use Rattle.dt_base.specs.Warns.{both_warns};
 ghost use Rattle.dt_model.specs.Operations.{binary, unary, chosen, contained};
 ghost use Rattle.expr_eval.specs.Refusals.{Refuses};
 ghost use Rattle.expr_eval.specs.Slots.{operand_of};
 ghost use Rattle.expr_model.specs.Functions.{choice_value, conversion, na_test};
 ghost use Rattle.session_model.specs.Expression.{met, signed};
-ghost use Rattle.expr_model.specs.Operators.{op_word, unary_word, op_result, length_fault, tail_value, sign_value};
+ghost use Rattle.expr_model.specs.Operators.{op_word, unary_word, op_result, tail_value, sign_value};
 ghost use Rattle.vec_funcs.specs.Valued.{valued_of, vector_of};
 
 use crate::kinds::{op_name, unary_name};
 use crate::lent::unwarned;
 use crate::operands::Operand;
 use crate::ranges::range_value;
-use arg_bind::{EvalFail, stop};
-use dt_base::{Code, ColType, Fault, Op, Steps, Text, UnOp};
+use arg_bind::{EvalFail, stop, stop_length};
+use dt_base::{Code, ColType, Op, Steps, UnOp};
 use dt_tree::BinOp;
 use na_ops::{OpFail, binary, choose, coerce, contained, unary};
 use na_vector::Column;
 use std::alloc::Global;
 use std::sync::ledger::Ledger;
 use vec_funcs::Valued;
-
-/// A length n where m is wanted.
-pub fn stop_length(alloc: Global, n: usize, m: usize) -> EvalFail
-    ensures answer { IsStop (length_fault n m) result }
-    ensures own { IsOwn result }
-{
-    match Text::make(alloc, "") {
-        Ok(what) => EvalFail::Stop(Fault {
-            code: Code::E05,
-            what,
-            n: n as u64,
-            m: m as u64,
-        }),
-        Err(error) => EvalFail::NoMemory(error),
-    }
-}
 
 /// The fault of an operation that is refused, told with this word.
 fn refused(alloc: Global, word: &str, fail: OpFail) -> EvalFail

@@ -11,8 +11,7 @@ ghost use Rattle.vec_funcs.specs.Valued.{vector_of};
 ghost use Rattle.expr_eval.specs.Ranges.{IsNumber};
 
 use crate::kinds::range_type;
-use crate::operations::stop_length;
-use arg_bind::{EvalFail, stop};
+use arg_bind::{EvalFail, stop, stop_length};
 use dt_base::limits::{MAX_ROWS, NA_WORD};
 use dt_base::{Code, Steps, Text};
 use na_vector::Column;

@@ -10,7 +10,7 @@ ghost use Rattle.na_words.specs.Shown.{vector_from};
 ghost use Rattle.vec_funcs.specs.Valued.{valued_of};
 
 use crate::lent::{number_value, unwarned};
-use arg_bind::{EvalFail, stop};
+use arg_bind::{EvalFail, stop, stop_unbuilt};
 use dt_base::limits::MAX_ROWS;
 use dt_base::{Code, ColName, Text};
 use dt_table::Table;
@@ -20,7 +20,7 @@ use std::alloc::{AllocError, Global};
 use vec_funcs::Valued;
 
 /// The number of rows.
-#[tactic(auto, using(crate::proofs::Plain::counts))]
+#[tactic(auto, using(dt_table::proofs::Plain::counts))]
 fn rows_of(alloc: Global, table: &Table) -> Result<Valued, EvalFail>
     ensures answer { AnswersAs valued_of (quiet (description_of Func.Nrow (plain table.now))) result }
     ensures own { IfErr result IsOwn }
@@ -29,7 +29,7 @@ fn rows_of(alloc: Global, table: &Table) -> Result<Valued, EvalFail>
 }
 
 /// The number of columns.
-#[tactic(auto, using(crate::proofs::Plain::counts))]
+#[tactic(auto, using(dt_table::proofs::Plain::counts))]
 fn columns_of(alloc: Global, table: &Table) -> Result<Valued, EvalFail>
     ensures answer { AnswersAs valued_of (quiet (description_of Func.Ncol (plain table.now))) result }
     ensures own { IfErr result IsOwn }
@@ -58,7 +58,7 @@ fn name_column(alloc: Global, names: &[ColName]) -> Result<Column, AllocError>
 }
 
 /// The names of the columns, in order. More than 16,777,216, which no script makes, are E07.
-#[tactic(auto, using(crate::proofs::Plain::counts))]
+#[tactic(auto, using(dt_table::proofs::Plain::counts, crate::proofs::Plain::plain_names))]
 fn names_of(alloc: Global, table: &Table) -> Result<Valued, EvalFail>
     ensures answer { AnswersAs valued_of (quiet (description_of Func.Names (plain table.now))) result }
     ensures own { IfErr result IsOwn }
@@ -82,6 +82,6 @@ pub fn description(alloc: Global, f: Func, table: &Table) -> Result<Valued, Eval
         Func::Nrow => rows_of(alloc, table),
         Func::Ncol => columns_of(alloc, table),
         Func::Names => names_of(alloc, table),
-        _ => Err(stop(alloc, Code::E19, "unbuilt")),
+        _ => Err(stop_unbuilt(alloc)),
     }
 }

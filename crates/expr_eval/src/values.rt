@@ -1,4 +1,4 @@
-ghost use Rattle.std.specs.Prelude.{◌≡◌, ◌<◌, [], length, map, IfErr};
+ghost use Rattle.std.specs.Prelude.{◌≡◌, ◌<◌, [], length, map, IfOk, IfErr};
 ghost use Rattle.arg_bind.specs.Answers.{AnswersAs, IsOwn};
 ghost use Rattle.expr_eval.specs.Scope.{env_of, IsScope};
 ghost use Rattle.expr_eval.specs.Slots.{operand_of, slot_of};
@@ -17,7 +17,7 @@ use crate::operands::{Operand, owned};
 use crate::operations::{met, signed};
 use crate::tables::description;
 use crate::{Scope, Vars};
-use arg_bind::{EvalFail, bind, next, place, stop};
+use arg_bind::{EvalFail, bind, next, place, stop, stop_unbuilt};
 use dt_base::{Code, Steps, UnOp};
 use dt_tree::{Arg, Expr, Tail};
 use func_table::{
@@ -205,7 +205,7 @@ fn eval_bound<V: Vars, L: Ledger>(
     match arity_of(f) {
         Arity::Unnamed => eval_each(alloc, args, s, steps),
         Arity::Fixed => eval_fixed(alloc, f, args, s, steps),
-        Arity::Columns => Err(stop(alloc, Code::E19, "unbuilt")),
+        Arity::Columns => Err(stop_unbuilt(alloc)),
     }
 }
 
@@ -225,8 +225,9 @@ fn eval_each<V: Vars, L: Ledger>(
     combined(alloc, values.as_slice(), steps)
 }
 
+/// The values of all arguments in order, or the first fault.
 #[cycle(eval)]
-fn values_of_each<V: Vars, L: Ledger>(
+pub fn values_of_each<V: Vars, L: Ledger>(
     alloc: Global,
     args: &[Arg],
     s: &Scope<'_, V>,
@@ -234,6 +235,7 @@ fn values_of_each<V: Vars, L: Ledger>(
 ) -> Result<Vec<Valued>, EvalFail>
     requires { IsScope s.now }
     ensures answer { AnswersAs (λ v. map valued_of v.items) (each (λ m. m.value (env_of V.bound s.now)) [] (map arg_meaning args.now)) result }
+    ensures count { IfOk result (λ v. length v.items ≡ length args.now) }
     ensures own { IfErr result IsOwn }
 {
     let mut done = Vec::new(alloc);

@@ -6,8 +6,7 @@ ghost use Rattle.expr_model.specs.Lengths.{common_length, fitting, longest, repe
 ghost use Rattle.na_words.specs.Shown.{vector_from};
 ghost use Rattle.vec_funcs.specs.Valued.{vector_in};
 
-use crate::fail::stop_length;
-use arg_bind::EvalFail;
+use arg_bind::{EvalFail, stop_length};
 use dt_base::Steps;
 use na_vector::Column;
 use std::alloc::{AllocError, Global};

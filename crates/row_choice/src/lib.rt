@@ -9,7 +9,6 @@
 //! where they come there. Each is linear in the rows and the cells, and its loops run over stored words.
 #![tactic(auto)]
 
-mod fail;
 mod lengths;
 mod listing;
 mod marks;

@@ -5,10 +5,9 @@ ghost use Rattle.dt_model.specs.Vector.{IsWithin};
 ghost use Rattle.expr_model.specs.Rows.{chosen};
 ghost use Rattle.na_words.specs.Shown.{IsShown, shown};
 
-use crate::fail::stop_unbuilt;
 use crate::places::by_place;
 use crate::truths::by_truth;
-use arg_bind::EvalFail;
+use arg_bind::{EvalFail, stop_unbuilt};
 use dt_base::Steps;
 use na_vector::Column;
 use na_words::{Words, words_of};

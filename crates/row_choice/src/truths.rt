@@ -4,9 +4,8 @@ ghost use Rattle.dt_base.specs.declared.limits.TheConstants.{MAX_ROWS};
 ghost use Rattle.expr_model.specs.Rows.{all_or_none, by_truth, is_true, true_rows};
 ghost use Rattle.na_vector.specs.Words.{lgl_cell};
 
-use crate::fail::stop_length;
 use crate::listing::{all_rows, push_if};
-use arg_bind::EvalFail;
+use arg_bind::{EvalFail, stop_length};
 use std::alloc::{AllocError, Global};
 
 /// Whether the word is TRUE: NA is not.

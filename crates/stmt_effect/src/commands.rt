@@ -1,6 +1,6 @@
 ghost use Rattle.std.specs.Prelude.{◌≡◌, ◌≤◌, IfOk, IfErr, IsSome, IsErrOf, Some, cond, map};
 ghost use Rattle.std.specs.FinMap as finite;
-ghost use Rattle.arg_bind.specs.Answers.{AnswersAs, IsOwn};
+ghost use Rattle.arg_bind.specs.Answers.{AnswersAs, IsNoMemory, IsOwn};
 ghost use Rattle.dt_world.specs.Causes.{Rose};
 ghost use Rattle.session_model.specs.Calls.{argument, package_named, known_package, bare_name, removed_name, written_given, command};
 ghost use Rattle.session_model.specs.Expression.{names_in};
@@ -10,7 +10,6 @@ ghost use Rattle.run_model.specs.Csv.{written_csv};
 ghost use Rattle.session_model.specs.Binding.{is_free};
 ghost use Rattle.session_model.specs.Effect as model;
 ghost use Rattle.vector_model.specs.Then.{then_do};
-ghost use Rattle.stmt_value.specs.Fails.{IsNoMemory};
 ghost use Rattle.stmt_effect.specs.Effects.{plain_effect, FitsIn};
 ghost use Rattle.stmt_value.specs.Answers.{Gives, Blames};
 ghost use Rattle.stmt_value.specs.Values.{plain_given, scene, IsValueIn};
@@ -19,7 +18,7 @@ ghost use Rattle.table_heap.specs.State.{state_of};
 
 use crate::effect::{Change, Effect, Written};
 use crate::printed::printed;
-use arg_bind::{EvalFail, next, stop};
+use arg_bind::{EvalFail, bare_name, next, stop};
 use csv_edge::write_table;
 use dt_base::{Code, Steps, Text, Warns};
 use dt_table::Table;
@@ -28,7 +27,7 @@ use dt_world::Files;
 use func_table::{Formal, Func};
 use std::alloc::{AllocError, Global};
 use std::sync::ledger::Ledger;
-use stmt_value::{Given, ValueFail, argument, bare_name, named_file, refusal, value, wanted_table};
+use stmt_value::{Given, ValueFail, argument, named_file, refusal_unbuilt, value, wanted_table};
 use table_heap::{Heap, Look};
 
 /// The package `data.table`, which does nothing; anything else is E19 with `package`.
@@ -220,6 +219,6 @@ pub fn command<F: Files, L: Ledger>(
         Func::Print => print(alloc, args, heap, files, steps),
         Func::Fwrite => fwrite(alloc, args, heap, files, steps),
         Func::Rm => Ok(rm(alloc, args, heap)?),
-        _ => Err(refusal(alloc, Code::E19, "unbuilt")),
+        _ => Err(refusal_unbuilt(alloc)),
     }
 }

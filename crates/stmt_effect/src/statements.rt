@@ -21,7 +21,7 @@ use dt_world::Files;
 use func_table::{Func, Kind, func_named, func_word, kind_of};
 use std::alloc::Global;
 use std::sync::ledger::Ledger;
-use stmt_value::{ValueFail, is_served, refusal, value};
+use stmt_value::{ValueFail, is_served, refusal, refusal_unbuilt, value};
 use table_heap::Heap;
 
 /// What a statement does whose expression is a value.
@@ -225,7 +225,7 @@ pub fn compute<F: Files, L: Ledger>(
     ensures cause { IfErr result (Blames (F.held files.old) (Rose (F.misses files.old) (F.misses files.new)) (Rose (F.longs files.old) (F.longs files.new))) }
 {
     if !is_served(&stmt.expr, false) {
-        return Err(refusal(alloc, Code::E19, "unbuilt"));
+        return Err(refusal_unbuilt(alloc));
     }
     served_step(alloc, &stmt.expr, &stmt.target, heap, files, steps)
 }

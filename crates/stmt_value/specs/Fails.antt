@@ -1,11 +1,10 @@
 -- Why a value is not given, where no file is read.
 --   widened e          the same of a call that may read files
---   IsNoMemory e       it is want of memory
 --   IsFileStop e r      r is the fault of a file that is refused by e
 use Rattle.arg_bind.specs.declared.fail.EvalFail.{EvalFail}
 use Rattle.arg_bind.specs.declared.fail.EvalFail.TheVariants as eval
 use Rattle.std.specs.Prelude.{[]}
-use Rattle.arg_bind.specs.Answers.{IsStop}
+use Rattle.arg_bind.specs.Answers.{IsStop, IsNoMemory}
 use Rattle.dt_base.specs.Fault.{fault}
 use Rattle.dt_base.specs.declared.fault.Code.TheVariants.{E07, E09, E17, E18}
 use Rattle.csv_edge.specs.declared.fail.CsvFail.{CsvFail}
@@ -19,11 +18,6 @@ use Rattle.stmt_value.specs.declared.fail.ValueFail.TheVariants.{Stop, NoMemory}
 abbrev pub widened : EvalFail → ValueFail
 widened (eval.Stop f) = Stop f
 widened (eval.NoMemory e) = NoMemory e
-
--- it is want of memory
-abbrev pub IsNoMemory : EvalFail → Type 0
-IsNoMemory (eval.Stop f) = ⊥
-IsNoMemory (eval.NoMemory e) = Unit {0}
 
 -- the fault of a file that is refused so
 abbrev pub IsFileStop : CsvFail → EvalFail → Type 0

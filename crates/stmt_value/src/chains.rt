@@ -9,7 +9,7 @@ ghost use Rattle.table_heap.specs.State.{state_of};
 use crate::forms::written_name;
 use crate::given::{Given, Value};
 use crate::vars::ScriptNames;
-use arg_bind::{EvalFail, stop};
+use arg_bind::{EvalFail, stop, stop_unbuilt};
 use dt_base::{Code, Steps};
 use dt_query::{Options, run_query};
 use dt_table::Table;
@@ -65,7 +65,7 @@ fn argument_fault(alloc: Global, name: &str) -> EvalFail
     ensures own { IsOwn result }
 {
     if is_bracket_argument(name) {
-        stop(alloc, Code::E19, "unbuilt")
+        stop_unbuilt(alloc)
     } else {
         stop(alloc, Code::E19, name)
     }

@@ -1,10 +1,8 @@
-ghost use Rattle.arg_bind.specs.Answers as eval;
-ghost use Rattle.arg_bind.specs.Answers.{IsOwn};
 ghost use Rattle.expr_model.specs.Unbuilt.{unbuilt};
 ghost use Rattle.stmt_value.specs.Answers.{IsStop};
 ghost use Rattle.dt_base.specs.Fault.{fault};
 
-use arg_bind::{EvalFail, stop};
+use arg_bind::{EvalFail, stop_unbuilt};
 use dt_base::{Code, Fault};
 use std::alloc::{AllocError, Global};
 
@@ -51,10 +49,12 @@ pub fn refusal(alloc: Global, code: Code, what: &str) -> ValueFail
     }
 }
 
-/// The fault of a form that no statement serves yet.
-pub fn unbuilt(alloc: Global) -> EvalFail
-    ensures answer { eval.IsStop unbuilt result }
-    ensures own { IsOwn result }
+/// The fault of a form of the language that nothing serves yet, or want of memory for its text.
+pub fn refusal_unbuilt(alloc: Global) -> ValueFail
+    ensures { IsStop unbuilt result }
 {
-    stop(alloc, Code::E19, "unbuilt")
+    match stop_unbuilt(alloc) {
+        EvalFail::Stop(fault) => ValueFail::Stop(fault),
+        EvalFail::NoMemory(error) => ValueFail::NoMemory(error),
+    }
 }

@@ -1,38 +1,13 @@
-ghost use Rattle.std.specs.Prelude.{◌≡◌, option_map, map};
+ghost use Rattle.std.specs.Prelude.{◌≡◌, map};
 ghost use Rattle.std.specs.List.{list_all};
 ghost use Rattle.session_model.specs.Binding.{word_in};
-ghost use Rattle.session_model.specs.Form.{text_in, name_in};
 ghost use Rattle.session_model.specs.Meaning.{meaning, arg_meaning, tail_meaning, second_meaning, bracket_meaning, call_joins, call_served};
 ghost use Rattle.session_model.specs.Query.{is_served_first, is_served_second, is_served_argument, bracket_served};
 
-use dt_base::{Cell, ColType};
 use dt_tree::{Arg, Bracket, Expr, Second, Tail};
 use func_table::{
     Kind, func_named, is_bracket_argument, is_later, is_later_special, is_list, kind_of,
 };
-
-/// The text of a text literal; NA is none.
-pub fn text_literal(e: &Expr) -> Option<&str>
-    ensures { option_map (λ s. s.now) result ≡ text_in (meaning e.now).form }
-{
-    match e {
-        Expr::Lit {
-            cell: Cell::Text(text),
-            kind: ColType::Chr,
-        } => Some(text.as_str()),
-        _ => None,
-    }
-}
-
-/// The name of a bare name.
-pub fn bare_name(e: &Expr) -> Option<&str>
-    ensures { option_map (λ s. s.now) result ≡ name_in (meaning e.now).form }
-{
-    match e {
-        Expr::Name { name } => Some(name.as_str()),
-        _ => None,
-    }
-}
 
 /// The name that is written before an argument; the empty text where none is.
 pub fn written_name(arg: &Arg) -> &str

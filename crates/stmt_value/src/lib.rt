@@ -2,7 +2,7 @@
 //!
 //! - `value` answers it, or the first fault; `is_served` tells whether statements serve all forms of
 //!   an expression.
-//! - `argument`, `named_file`, `bare_name`, `wanted_table`: what commands ask of their arguments.
+//! - `argument`, `named_file`, `wanted_table`: what commands ask of their arguments.
 //! - `Value` and `Given` are what it answers; `ValueFail` says why it does not.
 //!
 //! It stands on the definitions of `session_model`, on `table_heap` for names, on `csv_edge` for
@@ -21,7 +21,7 @@ mod values;
 mod vars;
 mod vectors;
 
-pub use fail::{ValueFail, refusal};
-pub use forms::{bare_name, is_served};
+pub use fail::{ValueFail, refusal, refusal_unbuilt};
+pub use forms::is_served;
 pub use given::{Given, Value};
 pub use values::{argument, named_file, value, wanted_table};

@@ -15,12 +15,11 @@ ghost use Rattle.stmt_value.specs.Values.{plain_value, plain_given, scene, IsVal
 ghost use Rattle.table_heap.specs.State.{state_of};
 
 use crate::chains::{called, chained};
-use crate::fail::{ValueFail, refusal, unbuilt};
+use crate::fail::{ValueFail, refusal, refusal_unbuilt};
 use crate::files::file_table;
-use crate::forms::text_literal;
 use crate::given::{Given, Value};
 use crate::vectors::{table_value, vector_value};
-use arg_bind::{EvalFail, bind, place, stop};
+use arg_bind::{EvalFail, bind, place, stop, stop_unbuilt, text_literal};
 use dt_base::{Code, Steps};
 use dt_table::Table;
 use dt_tree::{Arg, Bracket, Expr};
@@ -48,9 +47,9 @@ pub fn argument(alloc: Global, args: &[Arg], before: usize, p: Formal) -> Result
                 is_meant(arg);
                 Ok(&arg.value)
             }
-            None => Err(unbuilt(alloc)),
+            None => Err(stop_unbuilt(alloc)),
         },
-        None => Err(unbuilt(alloc)),
+        None => Err(stop_unbuilt(alloc)),
     }
 }
 
@@ -225,7 +224,7 @@ fn table_call<'a, F: Files, L: Ledger>(
         Func::DataTable => Ok(table_value(alloc, args, heap, steps)?),
         Func::Fread => file_value(alloc, args, heap, files, steps),
         Func::Copy => copy_value(alloc, args, heap, files, steps),
-        _ => Err(refusal(alloc, Code::E19, "unbuilt")),
+        _ => Err(refusal_unbuilt(alloc)),
     }
 }
 
@@ -280,9 +279,9 @@ fn copy_value<'a, F: Files, L: Ledger>(
                 is_meant(arg);
                 copy_of(alloc, &arg.value, heap, files, steps)
             }
-            None => Err(refusal(alloc, Code::E19, "unbuilt")),
+            None => Err(refusal_unbuilt(alloc)),
         },
-        None => Err(refusal(alloc, Code::E19, "unbuilt")),
+        None => Err(refusal_unbuilt(alloc)),
     }
 }
 

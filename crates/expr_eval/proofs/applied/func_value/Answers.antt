@@ -10,5 +10,5 @@ use Rattle.vec_funcs.specs.Valued.{valued_of}
 -- no other number of arguments is served
 pub returns-in-len4-up-clause-answer : goal.returns-in-len4-up-clause-answer
 returns-in-len4-up-clause-answer g c =
-    stop_told valued_of (value_of c.args.f (map slot_vector (map slot_of c.args.given.now))) unbuilt c.stop-in-len4-up.result
-    (more_given c.args.f c.args.given.now c.in-len4-up.len_at_least) c.stop-in-len4-up.ensures.fault
+    stop_told valued_of (value_of c.args.f (map slot_vector (map slot_of c.args.given.now))) unbuilt c.stop_unbuilt-in-len4-up.result
+    (more_given c.args.f c.args.given.now c.in-len4-up.len_at_least) c.stop_unbuilt-in-len4-up.ensures.fault

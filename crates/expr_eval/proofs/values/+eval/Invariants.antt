@@ -1,4 +1,4 @@
-use Rattle.std.proofs.Common.{◌≡◌, ◌≤◌, [], map, drop}
+use Rattle.std.proofs.Common.{◌≡◌, ◌≤◌, [], map, drop, length}
 use Rattle.expr_eval.specs.Scope.{env_of}
 use Rattle.expr_eval.specs.Slots.{operand_of, slot_of}
 use Rattle.session_model.specs.Expression.{names_in, value_tails, each, slots}
@@ -14,8 +14,9 @@ invariant-eval_tails-loop-t g l =
 
 abbrev pub invariant-values_of_each-loop-a : goal.invariant-values_of_each-loop-a
 invariant-values_of_each-loop-a g l =
-    each (λ m. m.value (env_of g.V.Vars.bound l.s)) [] (map arg_meaning l.args)
-    ≡ each (λ m. m.value (env_of g.V.Vars.bound l.s)) (map valued_of l.done.items) (map arg_meaning (drop l.a-index l.args))
+    (each (λ m. m.value (env_of g.V.Vars.bound l.s)) [] (map arg_meaning l.args)
+    ≡ each (λ m. m.value (env_of g.V.Vars.bound l.s)) (map valued_of l.done.items) (map arg_meaning (drop l.a-index l.args)))
+    × (length l.done.items ≡ l.a-index)
 
 abbrev pub invariant-eval_formals-loop-p : goal.invariant-eval_formals-loop-p
 invariant-eval_formals-loop-p g l =

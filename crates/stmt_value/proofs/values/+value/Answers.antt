@@ -14,7 +14,7 @@ copy_value-returns-in-Some-get-clause-told g t c told =
 
 pub copy_value-returns-in-None-get-clause-told : goal.copy_value-returns-in-None-get-clause-told
 copy_value-returns-in-None-get-clause-told g t c told =
-    argument_refused _ _ c.refusal.result (not_found c.args.args.now _ c.in-Some.i (sym c.place.ensures ∙ c.in-Some.is) c.in-None-get.ensures.lookup.3) c.refusal.ensures
+    argument_refused _ _ c.refusal_unbuilt.result (not_found c.args.args.now _ c.in-Some.i (sym c.place.ensures ∙ c.in-Some.is) c.in-None-get.ensures.lookup.3) c.refusal_unbuilt.ensures
 
 pub value-returns-in_ok-vector_value-in-Minus-clause-told : goal.value-returns-in_ok-vector_value-in-Minus-clause-told
 value-returns-in_ok-vector_value-in-Minus-clause-told g t c told =

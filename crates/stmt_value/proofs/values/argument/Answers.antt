@@ -9,4 +9,4 @@ returns-in-Some-get-clause-answer c =
 
 pub returns-in-None-get-clause-answer : goal.returns-in-None-get-clause-answer
 returns-in-None-get-clause-answer c =
-    argument_missing _ c.unbuilt.result (not_found c.args.args.now _ c.in-Some.i (sym c.place.ensures ∙ c.in-Some.is) c.in-None-get.ensures.lookup.3) c.unbuilt.ensures.answer
+    argument_missing _ c.stop_unbuilt.result (not_found c.args.args.now _ c.in-Some.i (sym c.place.ensures ∙ c.in-Some.is) c.in-None-get.ensures.lookup.3) c.stop_unbuilt.ensures.fault
