@@ -17,12 +17,13 @@ use Rattle.expr_model.specs.Surroundings.{Env, column_named}
 use Rattle.func_table.specs.Calls.{is_list}
 use Rattle.na_vector.specs.Column.{Seen}
 use Rattle.na_vector.specs.Frame.{FrameSeen, vectors_of}
+use Rattle.session_model.proofs.InOrder.{onto, each_next, each_refused}
 use Rattle.session_model.specs.Columns.{known_column, known_columns, list_answer, text_columns}
+use Rattle.session_model.specs.Expression.{each}
 use Rattle.session_model.specs.Form.{text_in}
 use Rattle.session_model.specs.Meaning.{call_answer, call_vector, one_text as first_text, texts_from, texts_in, texts_or, with_text}
 use Rattle.session_model.specs.Meanings.{Answer, ArgMeaning}
 use Rattle.vec_funcs.specs.Valued.{vector_of}
-use Rattle.vector_model.specs.Then.{then_do}
 
 -- ---- Texts of arguments
 
@@ -69,22 +70,25 @@ found_filled name names (Some c) e a =
 left_at : (names : List (List ℕ)) (i : ℕ) (name : List ℕ) → i < length names → name ≡ get_or names i name → drop i names ≡ name ∷ drop (i + 1) names
 left_at names i name h e = drop-cons names i name h ∙ rw (add-one i, ← e) refl
 
+-- the column of a name
+abbrev known_at : Env → List ℕ → Result Vector Fault
+known_at s name = known_column name (column_named name s.rows)
+
 -- the next name, before the rest
-known_step : (s : Env) (done : List Vector) (names : List (List ℕ)) (i : ℕ) (name : List ℕ) (whole : Result (List Vector) Fault) → whole ≡ known_columns s done (drop i names) → i < length names → name ≡ get_or names i name → whole ≡ then_do (known_column name (column_named name s.rows)) (λ v. known_columns s (done ++ v ∷ []) (drop (i + 1) names))
-known_step s done names i name whole inv h e = inv ∙ ap (known_columns s done) (left_at names i name h e)
+known_step : (s : Env) (done : List Vector) (names : List (List ℕ)) (i : ℕ) (name : List ℕ) (whole : Result (List Vector) Fault) → whole ≡ onto done (known_columns s (drop i names)) → i < length names → name ≡ get_or names i name → whole ≡ onto done (each (known_at s) (name ∷ drop (i + 1) names))
+known_step s done names i name whole inv h e = inv ∙ ap (λ rest. onto done (known_columns s rest)) (left_at names i name h e)
 
 -- the fault of the next name is the fault of all
-pub known_refused : (s : Env) (done : List Vector) (names : List (List ℕ)) (i : ℕ) (name : List ℕ) (whole : Result (List Vector) Fault) (fail : EvalFail) → whole ≡ known_columns s done (drop i names) → i < length names → name ≡ get_or names i name → AnswersAs vector_of (known_column name (column_named name s.rows)) (Err fail) → AnswersAs {B = FrameSeen} (λ (f : FrameSeen). vectors_of f.columns) whole (Err fail)
+pub known_refused : (s : Env) (done : List Vector) (names : List (List ℕ)) (i : ℕ) (name : List ℕ) (whole : Result (List Vector) Fault) (fail : EvalFail) → whole ≡ onto done (known_columns s (drop i names)) → i < length names → name ≡ get_or names i name → AnswersAs vector_of (known_column name (column_named name s.rows)) (Err fail) → AnswersAs {B = FrameSeen} (λ (f : FrameSeen). vectors_of f.columns) whole (Err fail)
 known_refused s done names i name whole (eval.Stop f) inv h e k =
-    known_step s done names i name whole inv h e ∙ ap (λ o. then_do o (λ v. known_columns s (done ++ v ∷ []) (drop (i + 1) names))) k
+    each_refused (known_at s) whole done name (drop (i + 1) names) f (known_step s done names i name whole inv h e) k
 known_refused s done names i name whole (eval.NoMemory x) inv h e k = tt
 
 -- the next column was added
-pub known_next : (s : Env) (done new : List Seen) (c : Seen) (names : List (List ℕ)) (i : ℕ) (name : List ℕ) (whole : Result (List Vector) Fault) → whole ≡ known_columns s (vectors_of done) (drop i names) → i < length names → name ≡ get_or names i name → known_column name (column_named name s.rows) ≡ Ok c.vector → new ≡ done ++ c ∷ [] → whole ≡ known_columns s (vectors_of new) (drop (i + 1) names)
+pub known_next : (s : Env) (done new : List Seen) (c : Seen) (names : List (List ℕ)) (i : ℕ) (name : List ℕ) (whole : Result (List Vector) Fault) → whole ≡ onto (vectors_of done) (known_columns s (drop i names)) → i < length names → name ≡ get_or names i name → known_column name (column_named name s.rows) ≡ Ok c.vector → new ≡ done ++ c ∷ [] → whole ≡ onto (vectors_of new) (known_columns s (drop (i + 1) names))
 known_next s done new c names i name whole inv h e k n =
-    known_step s (vectors_of done) names i name whole inv h e
-    ∙ (ap (λ o. then_do o (λ v. known_columns s (vectors_of done ++ v ∷ []) (drop (i + 1) names))) k
-    ∙ ap (λ xs. known_columns s xs (drop (i + 1) names)) (sym (ap vectors_of n ∙ map-append (λ (x : Seen). x.vector) done (c ∷ []))))
+    each_next (known_at s) whole (vectors_of done) name (drop (i + 1) names) c.vector (known_step s (vectors_of done) names i name whole inv h e) k
+    ∙ ap (λ xs. onto xs (known_columns s (drop (i + 1) names))) (sym (ap vectors_of n ∙ map-append (λ (x : Seen). x.vector) done (c ∷ [])))
 
 pub count_next : (done new : List Seen) (c : Seen) (i : ℕ) → length done ≡ i → new ≡ done ++ c ∷ [] → length new ≡ i + 1
 count_next done new c i e n = ap length n ∙ (length-append done (c ∷ []) ∙ ap (λ k. k + 1) e)

@@ -3,7 +3,7 @@ use Rattle.std.proofs.Common.{◌≡◌, ℕ, ℤ, List, Option, None, Some, ref
 use Rattle.dt_query.specs.Forms.{not_name_in}
 use Rattle.expr_model.specs.Surroundings.{Env}
 use Rattle.func_table.specs.Special.{special_of}
-use Rattle.session_model.specs.Columns.{form_name, numbered_name, special_name}
+use Rattle.session_model.specs.Columns.{form_name, numbered_name}
 use Rattle.session_model.specs.Form.{Form, Literal, Negative, NullWord, InfWord, BareName, NotName, Other, name_in}
 use Rattle.session_model.specs.Meaning.{minus_form, not_form}
 use Rattle.session_model.specs.Meanings.{Meaning}
@@ -59,7 +59,7 @@ pub ruleset i_forms = (i_bare, i_negated, i_other)
 
 -- ---- What a form gives as a column's name
 
-pub name-bare : (s : Env) (p : ℕ) (f : Form) (name : List ℕ) → Some name ≡ name_in f → form_name s p f ≡ special_name s p name (special_of name)
+pub name-bare : (s : Env) (p : ℕ) (f : Form) (name : List ℕ) → Some name ≡ name_in f → form_name s p f ≡ form_name s p (BareName name)
 name-bare s p (Literal cell kind) name h = cc
 name-bare s p (Negative n) name h = cc
 name-bare s p NullWord name h = cc

@@ -5,6 +5,7 @@ ghost use Rattle.expr_eval.specs.Scope.{columns_of, column_seen, env_of, IsScope
 ghost use Rattle.expr_model.specs.Surroundings.{column_named};
 ghost use Rattle.func_table.specs.Special.{special_of};
 ghost use Rattle.session_model.specs.Columns.{numbered_name, is_column, special_name, form_name, unwritten_name, column_name, item_name, item_names};
+ghost use Rattle.session_model.specs.Form.{BareName};
 ghost use Rattle.session_model.specs.Meaning.{meaning, arg_meaning};
 
 use arg_bind::bare_name;
@@ -55,15 +56,11 @@ fn numbered_name(alloc: Global, place: usize) -> Result<ColName, AllocError>
     Ok(Text::from_string(format!(in alloc; "V{place}")?))
 }
 
-/// The same name. No table has a column without a name; in a scope that has one there is no name
-/// for it, which counts as want of memory.
+/// The same name.
 fn own_name(alloc: Global, name: &str) -> Result<ColName, AllocError>
     ensures name { IfOk result (λ n. n ≡ name.now) }
-    ensures filled { IfOk result IsFilled }
+    ensures filled { IsFilled name.now → IfOk result IsFilled }
 {
-    if name.is_empty() {
-        return Err(AllocError);
-    }
     Text::make(alloc, name)
 }
 
@@ -76,7 +73,7 @@ fn plain_name<V: Vars>(
 ) -> Result<ColName, AllocError>
     requires { IsScope s.now }
     ensures name { IfOk result (λ n. n ≡ special_name (env_of V.bound s.now) place name.now None) }
-    ensures filled { IfOk result IsFilled }
+    ensures filled { IsFilled name.now → IfOk result IsFilled }
 {
     if is_column(s, name) {
         return own_name(alloc, name);
@@ -93,7 +90,7 @@ fn special_name<V: Vars>(
 ) -> Result<ColName, AllocError>
     requires { IsScope s.now }
     ensures name { IfOk result (λ n. n ≡ special_name (env_of V.bound s.now) place name.now (special_of name.now)) }
-    ensures filled { IfOk result IsFilled }
+    ensures filled { IsFilled name.now → IfOk result IsFilled }
 {
     match special_named(name) {
         Some(Special::Count) => own_name(alloc, "N"),
@@ -102,6 +99,23 @@ fn special_name<V: Vars>(
         Some(Special::Rows) => numbered_name(alloc, place),
         None => plain_name(alloc, s, place, name),
     }
+}
+
+/// The name that a bare name gives in a bracket; an empty one counts as none.
+fn bare_column<V: Vars>(
+    alloc: Global,
+    s: &Scope<'_, V>,
+    place: usize,
+    name: &str,
+) -> Result<ColName, AllocError>
+    requires { IsScope s.now }
+    ensures name { IfOk result (λ n. n ≡ form_name (env_of V.bound s.now) place (BareName name.now)) }
+    ensures filled { IfOk result IsFilled }
+{
+    if name.is_empty() {
+        return numbered_name(alloc, place);
+    }
+    special_name(alloc, s, place, name)
 }
 
 /// The name that an expression gives in a bracket.
@@ -117,7 +131,7 @@ fn form_name<V: Vars>(
     ensures filled { IfOk result IsFilled }
 {
     match bare_name(e) {
-        Some(name) => special_name(alloc, s, place, name),
+        Some(name) => bare_column(alloc, s, place, name),
         None => numbered_name(alloc, place),
     }
 }

@@ -1,4 +1,4 @@
-ghost use Rattle.std.specs.Prelude.{◌≡◌, ◌<◌, [], None, Some, IfOk, IfErr, IfSome, MatchOption, All, length, map};
+ghost use Rattle.std.specs.Prelude.{◌≡◌, ◌<◌, None, Some, IfOk, IfErr, IfSome, MatchOption, All, length, map};
 ghost use Rattle.std.specs.Option.{option_copied};
 ghost use Rattle.arg_bind.specs.Answers.{AnswersAs, IsOwn};
 ghost use Rattle.dt_query.specs.Answers.{plain_answer};
@@ -117,7 +117,7 @@ fn copied_column<V: Vars, L: Ledger>(
 }
 
 /// Copies of the columns of these names.
-#[tactic(auto, using(crate::proofs::TextFacts::known_refused))]
+#[tactic(auto, using(crate::proofs::TextFacts::known_refused, session_model::proofs::InOrder::in_order))]
 fn known_columns<V: Vars, L: Ledger>(
     alloc: Global,
     names: &[ColName],
@@ -126,7 +126,7 @@ fn known_columns<V: Vars, L: Ledger>(
 ) -> Result<Frame, EvalFail>
     requires scope { IsScope s.now }
     requires rows { IsOverRows s.now }
-    ensures answer { AnswersAs (λ f. vectors_of f.columns) (known_columns (env_of V.bound s.now) [] names.now) result }
+    ensures answer { AnswersAs (λ f. vectors_of f.columns) (known_columns (env_of V.bound s.now) names.now) result }
     ensures rows { IfOk result (λ f. 0 < length names.now → f.rows ≡ s.now.count) }
     ensures count { IfOk result (λ f. length f.columns ≡ length names.now) }
     ensures filled { IfOk result (λ f. All IsFilled names.now) }
@@ -149,7 +149,7 @@ fn text_table<V: Vars, L: Ledger>(
     requires scope { IsScope s.now }
     requires rows { IsOverRows s.now }
     requires some { 0 < length names.now }
-    ensures answer { AnswersAs plain (then_do (known_columns (env_of V.bound s.now) [] names.now) (new_table names.now s.now.count)) result }
+    ensures answer { AnswersAs plain (then_do (known_columns (env_of V.bound s.now) names.now) (new_table names.now s.now.count)) result }
     ensures own { IfErr result IsOwn }
 {
     let frame = known_columns(alloc, names, s, steps)?;

@@ -2,8 +2,7 @@ ghost use Rattle.std.specs.Prelude.{◌≡◌, map, IfErr};
 ghost use Rattle.arg_bind.specs.Answers.{AnswersAs, IsOwn};
 ghost use Rattle.expr_eval.specs.Slots.{slot_of};
 ghost use Rattle.expr_model.specs.Functions.{one_value, flagged_value, three_value, value_of, value_of_one, value_of_two, value_of_three};
-ghost use Rattle.session_model.specs.Expression.{slot_vector, slot_warns, all_warns, warns_of_all, applied, combined};
-ghost use Rattle.dt_base.specs.Warns.{no_warns};
+ghost use Rattle.session_model.specs.Expression.{slot_vector, slot_warns, all_warns, warns_in, applied, combined};
 ghost use Rattle.vec_funcs.specs.Valued.{valued_of};
 
 use crate::operands::Operand;
@@ -159,8 +158,9 @@ fn warns_of(slot: &Slot<Operand<'_>>) -> Warns
 }
 
 /// The warnings of all slots.
+#[tactic(auto, using(session_model::proofs::InOrder::warnings))]
 fn warns_of_slots(given: &[Slot<Operand<'_>>]) -> Warns
-    ensures { result ≡ all_warns no_warns (map slot_of given.now) }
+    ensures { result ≡ all_warns (map slot_warns (map slot_of given.now)) }
 {
     let mut all = Warns::none();
     for slot in given {
@@ -187,8 +187,9 @@ pub fn applied<L: Ledger>(
 }
 
 /// The warnings of all values.
+#[tactic(auto, using(session_model::proofs::InOrder::warnings))]
 pub fn warns_of_values(values: &[Valued]) -> Warns
-    ensures { result ≡ warns_of_all no_warns (map valued_of values.now) }
+    ensures { result ≡ all_warns (map warns_in (map valued_of values.now)) }
 {
     let mut all = Warns::none();
     for v in values {

@@ -1,7 +1,7 @@
-ghost use Rattle.std.specs.Prelude.{◌≡◌, ◌<◌, [], length, map, IfErr};
+ghost use Rattle.std.specs.Prelude.{◌≡◌, ◌<◌, length, map, IfErr};
 ghost use Rattle.arg_bind.specs.Answers.{Answers, AnswersAs, IsOwn};
 ghost use Rattle.expr_eval.specs.Scope.{env_of, IsScope};
-ghost use Rattle.session_model.specs.Expression.{names_in, arg_at, check_tail, check_tails, given, slot_as, slot_at, slots, all_slots, each, check_vectors, check_kind, check_named, check_call};
+ghost use Rattle.session_model.specs.Expression.{names_in, arg_at, check_tail, check_tails, given, slot_as, slot_at, slots, all_slots, each_argument, check_vectors, check_kind, check_named, check_call};
 ghost use Rattle.session_model.specs.Meaning.{meaning, arg_meaning, tail_meaning, check_of};
 ghost use Rattle.expr_model.specs.Operators.{sign_type};
 ghost use Rattle.func_table.specs.Calls.{arity_of, formals_of, func_of, is_flag, kind_of};
@@ -176,7 +176,7 @@ fn check_bound<V: Vars>(
 #[cycle(check)]
 fn check_each<V: Vars>(alloc: Global, args: &[Arg], s: &Scope<'_, V>) -> Result<ColType, EvalFail>
     requires { IsScope s.now }
-    ensures answer { Answers (then_do (each (λ m. m.check (env_of V.bound s.now)) [] (map arg_meaning args.now)) (λ kinds. Ok (common_of kinds))) result }
+    ensures answer { Answers (then_do (each_argument (λ m. m.check (env_of V.bound s.now)) (map arg_meaning args.now)) (λ kinds. Ok (common_of kinds))) result }
     ensures own { IfErr result IsOwn }
 {
     let kinds = kinds_of_each(alloc, args, s)?;
@@ -195,13 +195,14 @@ fn common_kind(kinds: &[ColType]) -> ColType
 
 /// The types of all arguments in order, or the first fault.
 #[cycle(check)]
+#[tactic(auto, using(session_model::proofs::InOrder::in_order))]
 pub fn kinds_of_each<V: Vars>(
     alloc: Global,
     args: &[Arg],
     s: &Scope<'_, V>,
 ) -> Result<Vec<ColType>, EvalFail>
     requires { IsScope s.now }
-    ensures answer { AnswersAs (λ v. v.items) (each (λ m. m.check (env_of V.bound s.now)) [] (map arg_meaning args.now)) result }
+    ensures answer { AnswersAs (λ v. v.items) (each_argument (λ m. m.check (env_of V.bound s.now)) (map arg_meaning args.now)) result }
     ensures own { IfErr result IsOwn }
 {
     let mut done = Vec::new(alloc);
@@ -228,6 +229,7 @@ fn check_fixed<V: Vars>(
 }
 
 #[cycle(check)]
+#[tactic(auto, using(session_model::proofs::InOrder::in_order))]
 fn check_formals<V: Vars>(
     alloc: Global,
     ps: &[Formal],
@@ -236,7 +238,7 @@ fn check_formals<V: Vars>(
 ) -> Result<Vec<Slot<ColType>>, EvalFail>
     requires scope { IsScope s.now }
     requires few { length ps.now < 1000 }
-    ensures answer { AnswersAs (λ v. v.items) (slots (λ m. m.check (env_of V.bound s.now)) (map arg_meaning args.now) [] (places (names_in (map arg_meaning args.now)) 0 ps.now)) result }
+    ensures answer { AnswersAs (λ v. v.items) (slots (λ m. m.check (env_of V.bound s.now)) (map arg_meaning args.now) (places (names_in (map arg_meaning args.now)) 0 ps.now)) result }
     ensures own { IfErr result IsOwn }
 {
     let mut done = Vec::new(alloc);

@@ -1,8 +1,8 @@
-ghost use Rattle.std.specs.Prelude.{◌≡◌, ◌<◌, [], length, map, IfOk, IfErr};
+ghost use Rattle.std.specs.Prelude.{◌≡◌, ◌<◌, length, map, IfOk, IfErr};
 ghost use Rattle.arg_bind.specs.Answers.{AnswersAs, IsOwn};
 ghost use Rattle.expr_eval.specs.Scope.{env_of, IsScope};
 ghost use Rattle.expr_eval.specs.Slots.{operand_of, slot_of};
-ghost use Rattle.session_model.specs.Expression.{names_in, arg_at, flag_slot, value_tail, value_tails, signed, given, slot_as, slot_at, slots, each, combined, value_vectors, value_kind, value_call};
+ghost use Rattle.session_model.specs.Expression.{names_in, arg_at, flag_slot, value_tail, value_tails, signed, given, slot_as, slot_at, slots, each_argument, combined, value_vectors, value_kind, value_call};
 ghost use Rattle.session_model.specs.Meaning.{meaning, arg_meaning, tail_meaning, value_in};
 ghost use Rattle.func_table.specs.Calls.{is_flag, kind_of};
 ghost use Rattle.session_model.specs.Binding.{places, place_of};
@@ -218,7 +218,7 @@ fn eval_each<V: Vars, L: Ledger>(
     steps: &mut Steps<L>,
 ) -> Result<Valued, EvalFail>
     requires { IsScope s.now }
-    ensures answer { AnswersAs valued_of (then_do (each (λ m. m.value (env_of V.bound s.now)) [] (map arg_meaning args.now)) combined) result }
+    ensures answer { AnswersAs valued_of (then_do (each_argument (λ m. m.value (env_of V.bound s.now)) (map arg_meaning args.now)) combined) result }
     ensures own { IfErr result IsOwn }
 {
     let values = values_of_each(alloc, args, s, steps)?;
@@ -227,6 +227,7 @@ fn eval_each<V: Vars, L: Ledger>(
 
 /// The values of all arguments in order, or the first fault.
 #[cycle(eval)]
+#[tactic(auto, using(session_model::proofs::InOrder::in_order))]
 pub fn values_of_each<V: Vars, L: Ledger>(
     alloc: Global,
     args: &[Arg],
@@ -234,7 +235,7 @@ pub fn values_of_each<V: Vars, L: Ledger>(
     steps: &mut Steps<L>,
 ) -> Result<Vec<Valued>, EvalFail>
     requires { IsScope s.now }
-    ensures answer { AnswersAs (λ v. map valued_of v.items) (each (λ m. m.value (env_of V.bound s.now)) [] (map arg_meaning args.now)) result }
+    ensures answer { AnswersAs (λ v. map valued_of v.items) (each_argument (λ m. m.value (env_of V.bound s.now)) (map arg_meaning args.now)) result }
     ensures count { IfOk result (λ v. length v.items ≡ length args.now) }
     ensures own { IfErr result IsOwn }
 {
@@ -263,6 +264,7 @@ fn eval_fixed<V: Vars, L: Ledger>(
 }
 
 #[cycle(eval)]
+#[tactic(auto, using(session_model::proofs::InOrder::in_order))]
 fn eval_formals<'a, V: Vars, L: Ledger>(
     alloc: Global,
     ps: &[Formal],
@@ -272,7 +274,7 @@ fn eval_formals<'a, V: Vars, L: Ledger>(
 ) -> Result<Vec<Slot<Operand<'a>>>, EvalFail>
     requires scope { IsScope s.now }
     requires few { length ps.now < 1000 }
-    ensures answer { AnswersAs (λ v. map slot_of v.items) (slots (λ m. m.value (env_of V.bound s.now)) (map arg_meaning args.now) [] (places (names_in (map arg_meaning args.now)) 0 ps.now)) result }
+    ensures answer { AnswersAs (λ v. map slot_of v.items) (slots (λ m. m.value (env_of V.bound s.now)) (map arg_meaning args.now) (places (names_in (map arg_meaning args.now)) 0 ps.now)) result }
     ensures own { IfErr result IsOwn }
 {
     let mut done = Vec::new(alloc);

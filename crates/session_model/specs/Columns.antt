@@ -5,7 +5,7 @@
 --   list_answer w args s     the same of one item or more; of none it is a fault with the word w
 --   text_columns names s     what the names of columns give: these columns
 --   vector_answer check value s    what any other expression gives: a vector
-use Rattle.std.specs.Prelude.{ℕ, ◌+◌, Bool, List, [], ◌∷◌, map, Option, None, Some, Result, Ok, Err, codes, decimal, is_some, ◌||◌, ◌++◌, if◌then◌else◌}
+use Rattle.std.specs.Prelude.{ℕ, ◌+◌, Bool, List, [], ◌∷◌, map, Option, None, Some, Result, Ok, Err, codes, decimal, is_some, ◌||◌, if◌then◌else◌}
 use Rattle.dt_base.specs.declared.cell.ColType.{ColType}
 use Rattle.dt_base.specs.declared.fault.Fault.{Fault}
 use Rattle.dt_base.specs.declared.fault.Code.TheVariants.{E03, E19}
@@ -21,7 +21,7 @@ use Rattle.vector_model.specs.Functions.{Valued}
 use Rattle.vector_model.specs.Then.{then_do}
 use Rattle.expr_model.specs.Lengths.{common_length, repeated}
 use Rattle.expr_model.specs.Surroundings.{Env, column_named}
-use Rattle.session_model.specs.Expression.{each, vector_in, warns_of_all}
+use Rattle.session_model.specs.Expression.{all_warns, each, each_argument, vector_in, warns_in}
 use Rattle.session_model.specs.Form.{Form, BareName}
 use Rattle.session_model.specs.Meanings.{Meaning, ArgMeaning, Answer, Outcome}
 use Rattle.session_model.specs.Meanings as gives
@@ -43,8 +43,9 @@ special_name s p name (Some special.Count) = codes "N"
 special_name s p name (Some _) = numbered_name p
 special_name s p name None = if is_column s name then name else numbered_name p
 
+-- no script writes an empty name, and it names no column
 abbrev pub form_name : Env → ℕ → Form → List ℕ
-form_name s p (BareName name) = special_name s p name (special_of name)
+form_name s p (BareName (byte ∷ rest)) = special_name s p (byte ∷ rest) (special_of (byte ∷ rest))
 form_name s p _ = numbered_name p
 
 -- outside brackets a bare name is no column
@@ -75,13 +76,13 @@ gives_columns warns t = Ok (record { outcome = gives.Table t; warns = warns })
 
 -- the table of the values, with their warnings
 abbrev pub values_answer : List (List ℕ) → List Valued → Result Answer Fault
-values_answer names vs = then_do (list_table names (map vector_in vs)) (gives_columns (warns_of_all no_warns vs))
+values_answer names vs = then_do (list_table names (map vector_in vs)) (gives_columns (all_warns (map warns_in vs)))
 
 -- all types first, then all values, then the table
 abbrev pub columns_answer : List ArgMeaning → Env → Result Answer Fault
 columns_answer args s =
-    then_do (each (λ m. m.check s) [] args) (λ _.
-    then_do (each (λ m. m.value s) [] args) (values_answer (item_names s 1 args)))
+    then_do (each_argument (λ m. m.check s) args) (λ _.
+    then_do (each_argument (λ m. m.value s) args) (values_answer (item_names s 1 args)))
 
 abbrev pub list_answer : List ℕ → List ArgMeaning → Env → Result Answer Fault
 list_answer word [] s = Err (fault E19 word)
@@ -93,15 +94,13 @@ abbrev pub known_column : List ℕ → Option Vector → Result Vector Fault
 known_column name None = Err (fault E03 name)
 known_column name (Some v) = Ok v
 
--- the columns of these names behind those that are found, or the first that is unknown
-abbrev pub known_columns : Env → List Vector → List (List ℕ) → Result (List Vector) Fault
-known_columns s done [] = Ok done
-known_columns s done (name ∷ rest) =
-    then_do (known_column name (column_named name s.rows)) (λ v. known_columns s (done ++ v ∷ []) rest)
+-- the columns of these names, or the first that is unknown
+abbrev pub known_columns : Env → List (List ℕ) → Result (List Vector) Fault
+known_columns s names = each (λ name. known_column name (column_named name s.rows)) names
 
 abbrev pub text_columns : List (List ℕ) → Env → Result Answer Fault
 text_columns names s =
-    then_do (known_columns s [] names) (λ vs. then_do (new_table names s.count vs) (gives_columns no_warns))
+    then_do (known_columns s names) (λ vs. then_do (new_table names s.count vs) (gives_columns no_warns))
 
 -- ---- Vectors
 

@@ -1,10 +1,11 @@
 -- What expressions give where a vector is wanted: a type, and a value.
+--   each f xs           what f gives for each of these, or the first fault
 --   slots run args ..   what a call gives for each formal, by `run`, which is a type's or a value's
 --   check_tails, value_tails   chains of operators
 --   check_call, value_call     the type and the value of a call
 -- Faults come left to right, and what stands inside an expression comes before the expression. A type
 -- depends on no cell. A value repeats the faults of types.
-use Rattle.std.specs.Prelude.{ℕ, Bool, true, false, List, [], ◌∷◌, ◌++◌, map, Option, None, Some, Result, Ok, Err, slice_get}
+use Rattle.std.specs.Prelude.{ℕ, Bool, true, false, List, [], ◌∷◌, map, Option, None, Some, Result, Ok, Err, slice_get}
 use Rattle.dt_base.specs.declared.cell.Cell.TheVariants as is
 use Rattle.dt_base.specs.declared.cell.ColType.{ColType}
 use Rattle.dt_base.specs.declared.fault.Fault.{Fault}
@@ -51,6 +52,11 @@ kind_in r = then_do r (λ v. Ok v.kind)
 -- a value without its warnings
 abbrev pub vector_in : Valued → Vector
 vector_in v = v.vector
+
+-- what `f` gives for each, in their order, or the first fault
+abbrev pub each : {A B : Type 0} → (A → Result B Fault) → List A → Result (List B) Fault
+each f [] = Ok []
+each f (x ∷ rest) = then_do (f x) (λ y. then_do (each f rest) (λ more. Ok (y ∷ more)))
 
 -- ---- Chains of operators: from the left
 
@@ -108,20 +114,17 @@ abbrev pub slot_at : {A : Type 0} → (Meaning → Result A Fault) → Formal �
 slot_at run p None = Ok Absent
 slot_at run p (Some a) = slot_as run p (is_flag p) a.means
 
--- the slots of these formals behind those that are done, or the first fault in their order
-abbrev pub slots : {A : Type 0} → (Meaning → Result A Fault) → List ArgMeaning → List (Slot A) → List (Formal × Option ℕ) → Result (List (Slot A)) Fault
-slots run args done [] = Ok done
-slots run args done (x ∷ rest) =
-    then_do (slot_at run x.0 (arg_at args x.1)) (λ slot. slots run args (done ++ slot ∷ []) rest)
+-- the slots of these formals, or the first fault in their order
+abbrev pub slots : {A : Type 0} → (Meaning → Result A Fault) → List ArgMeaning → List (Formal × Option ℕ) → Result (List (Slot A)) Fault
+slots run args formals = each (λ x. slot_at run x.0 (arg_at args x.1)) formals
 
 -- what each formal of a function is given
 abbrev pub all_slots : {A : Type 0} → (Meaning → Result A Fault) → Func → List ArgMeaning → Result (List (Slot A)) Fault
-all_slots run f args = slots run args [] (places (names_in args) 0 (formals_of f))
+all_slots run f args = slots run args (places (names_in args) 0 (formals_of f))
 
--- what `run` makes of each argument, behind those that are done, or the first fault
-abbrev pub each : {A : Type 0} → (Meaning → Result A Fault) → List A → List ArgMeaning → Result (List A) Fault
-each run done [] = Ok done
-each run done (a ∷ rest) = then_do (run a.means) (λ x. each run (done ++ x ∷ []) rest)
+-- what `run` makes of each argument, or the first fault
+abbrev pub each_argument : {A : Type 0} → (Meaning → Result A Fault) → List ArgMeaning → Result (List A) Fault
+each_argument run args = each (λ a. run a.means) args
 
 -- the table of the argument D, which is a name as written
 abbrev pub table_at : Env → Option (List ℕ) → Result PlainTable Fault
@@ -146,7 +149,7 @@ later_fault name (Some later.Command) = fault E19 name
 
 -- a function on vectors, once its arguments are bound
 abbrev pub check_vectors : Arity → Env → Func → List ArgMeaning → Result ColType Fault
-check_vectors Unnamed s f args = then_do (each (λ m. m.check s) [] args) (λ kinds. Ok (common_of kinds))
+check_vectors Unnamed s f args = then_do (each_argument (λ m. m.check s) args) (λ kinds. Ok (common_of kinds))
 check_vectors Fixed s f args = then_do (all_slots (λ m. m.check s) f args) (type_of f)
 check_vectors Columns s f args = Err unbuilt
 
@@ -176,10 +179,10 @@ abbrev pub slot_warns : Slot Valued → Warns
 slot_warns (Given v) = v.warns
 slot_warns _ = no_warns
 
--- the warnings of all slots, beside these
-abbrev pub all_warns : Warns → List (Slot Valued) → Warns
-all_warns w [] = w
-all_warns w (x ∷ rest) = all_warns (both_warns w (slot_warns x)) rest
+-- what is in one of these sets of warnings
+abbrev pub all_warns : List Warns → Warns
+all_warns [] = no_warns
+all_warns (w ∷ rest) = both_warns w (all_warns rest)
 
 -- a value, and more warnings
 abbrev pub warned_too : Warns → Result Valued Fault → Result Valued Fault
@@ -187,19 +190,18 @@ warned_too w r = then_do r (λ v. Ok (record { vector = v.vector; warns = both_w
 
 -- a function's value, with the warnings of its arguments
 abbrev pub applied : Func → List (Slot Valued) → Result Valued Fault
-applied f given = warned_too (all_warns no_warns given) (value_of f (map slot_vector given))
+applied f given = warned_too (all_warns (map slot_warns given)) (value_of f (map slot_vector given))
 
--- the warnings of all values, beside these
-abbrev pub warns_of_all : Warns → List Valued → Warns
-warns_of_all w [] = w
-warns_of_all w (v ∷ rest) = warns_of_all (both_warns w v.warns) rest
+-- the warnings of a value
+abbrev pub warns_in : Valued → Warns
+warns_in v = v.warns
 
 -- `c` of values, with their warnings
 abbrev pub combined : List Valued → Result Valued Fault
-combined vs = with_warns (warns_of_all no_warns vs) (joined (map vector_in vs))
+combined vs = with_warns (all_warns (map warns_in vs)) (joined (map vector_in vs))
 
 abbrev pub value_vectors : Arity → Env → Func → List ArgMeaning → Result Valued Fault
-value_vectors Unnamed s f args = then_do (each (λ m. m.value s) [] args) combined
+value_vectors Unnamed s f args = then_do (each_argument (λ m. m.value s) args) combined
 value_vectors Fixed s f args = then_do (all_slots (λ m. m.value s) f args) (applied f)
 value_vectors Columns s f args = Err unbuilt
 

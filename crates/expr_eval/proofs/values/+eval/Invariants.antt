@@ -1,7 +1,8 @@
-use Rattle.std.proofs.Common.{◌≡◌, ◌≤◌, [], map, drop, length}
+use Rattle.std.proofs.Common.{◌≡◌, ◌≤◌, map, drop, length}
 use Rattle.expr_eval.specs.Scope.{env_of}
 use Rattle.expr_eval.specs.Slots.{operand_of, slot_of}
-use Rattle.session_model.specs.Expression.{names_in, value_tails, each, slots}
+use Rattle.session_model.proofs.InOrder.{onto}
+use Rattle.session_model.specs.Expression.{names_in, value_tails, each_argument, slots}
 use Rattle.session_model.specs.Meaning.{arg_meaning, tail_meaning}
 use Rattle.session_model.specs.Binding.{places}
 use Rattle.vec_funcs.specs.Valued.{valued_of}
@@ -14,12 +15,12 @@ invariant-eval_tails-loop-t g l =
 
 abbrev pub invariant-values_of_each-loop-a : goal.invariant-values_of_each-loop-a
 invariant-values_of_each-loop-a g l =
-    (each (λ m. m.value (env_of g.V.Vars.bound l.s)) [] (map arg_meaning l.args)
-    ≡ each (λ m. m.value (env_of g.V.Vars.bound l.s)) (map valued_of l.done.items) (map arg_meaning (drop l.a-index l.args)))
+    (each_argument (λ m. m.value (env_of g.V.Vars.bound l.s)) (map arg_meaning l.args)
+    ≡ onto (map valued_of l.done.items) (each_argument (λ m. m.value (env_of g.V.Vars.bound l.s)) (map arg_meaning (drop l.a-index l.args))))
     × (length l.done.items ≡ l.a-index)
 
 abbrev pub invariant-eval_formals-loop-p : goal.invariant-eval_formals-loop-p
 invariant-eval_formals-loop-p g l =
     (l.before ≤ l.p-index)
-    × (slots (λ m. m.value (env_of g.V.Vars.bound l.s)) (map arg_meaning l.args) [] (places (names_in (map arg_meaning l.args)) 0 l.ps)
-    ≡ slots (λ m. m.value (env_of g.V.Vars.bound l.s)) (map arg_meaning l.args) (map slot_of l.done.items) (places (names_in (map arg_meaning l.args)) l.before (drop l.p-index l.ps)))
+    × (slots (λ m. m.value (env_of g.V.Vars.bound l.s)) (map arg_meaning l.args) (places (names_in (map arg_meaning l.args)) 0 l.ps)
+    ≡ onto (map slot_of l.done.items) (slots (λ m. m.value (env_of g.V.Vars.bound l.s)) (map arg_meaning l.args) (places (names_in (map arg_meaning l.args)) l.before (drop l.p-index l.ps))))
