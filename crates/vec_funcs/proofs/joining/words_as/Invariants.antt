@@ -9,4 +9,4 @@ invariant-loop-v g l =
     (cells_as g.W.Word.kind (map vector_in l.values) ≡ map g.W.Word.cell l.out.items ++ cells_as g.W.Word.kind (map vector_in (drop l.v-index l.values)))
     × All g.W.Word.fine l.out.items
     × (length l.out.items + total_length (map vector_in (drop l.v-index l.values)) ≡ total_length (map vector_in l.values))
-    × (l.initial.steps ≤ l.steps)
+    × (l.steps + total_length (map vector_in (drop l.v-index l.values)) ≡ l.initial.steps + total_length (map vector_in l.values))
