@@ -5,7 +5,7 @@ use Rattle.std.proofs.lemmas.List.{append_assoc, append-nil}
 use Rattle.dt_base.specs.Warns.{no_warns, both_warns}
 use Rattle.dt_base.specs.declared.fault.Fault.{Fault}
 use Rattle.dt_base.specs.declared.warns.Warns.{Warns}
-use Rattle.session_model.specs.Expression.{each}
+use Rattle.session_model.specs.Expression.{all_warns, each}
 use Rattle.vector_model.specs.Then.{then_do}
 
 abbrev pub onto : {B : Type 0} → List B → Result (List B) Fault → Result (List B) Fault
@@ -60,7 +60,7 @@ none_last s = λ j. record {
   w06 = or_false s.w06 j;
 }
 
-pub both_assoc : (s t u : Warns) → both_warns s (both_warns t u) ≡ both_warns (both_warns s t) u
+both_assoc : (s t u : Warns) → both_warns s (both_warns t u) ≡ both_warns (both_warns s t) u
 both_assoc s t u = λ j. record {
   w01 = or_assoc s.w01 t.w01 u.w01 j;
   w02 = or_assoc s.w02 t.w02 u.w02 j;
@@ -70,4 +70,8 @@ both_assoc s t u = λ j. record {
   w06 = or_assoc s.w06 t.w06 u.w06 j;
 }
 
-pub ruleset warnings = (none_first, none_last, both_assoc)
+-- one more was joined
+pub warns_next : (whole all w : Warns) (rest : List Warns) → whole ≡ both_warns all (all_warns (w ∷ rest)) → whole ≡ both_warns (both_warns all w) (all_warns rest)
+warns_next whole all w rest h = h ∙ both_assoc all w (all_warns rest)
+
+pub ruleset warnings = (none_first, none_last, warns_next)
