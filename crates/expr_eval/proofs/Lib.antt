@@ -4,3 +4,4 @@ pub mod Given
 pub mod Plain
 pub mod Refused
 pub mod Vectors
+pub mod Warned
