@@ -1,7 +1,7 @@
 pub mod Between
 pub mod Bindings
 pub mod Given
+pub mod NextOne
 pub mod Plain
 pub mod Refused
 pub mod Vectors
-pub mod Warned

@@ -225,6 +225,22 @@ fn eval_each<V: Vars, L: Ledger>(
     combined(alloc, values.as_slice(), steps)
 }
 
+/// The value of an argument, of its own.
+#[cycle(eval)]
+fn eval_argument<V: Vars, L: Ledger>(
+    alloc: Global,
+    a: &Arg,
+    s: &Scope<'_, V>,
+    steps: &mut Steps<L>,
+) -> Result<Valued, EvalFail>
+    requires { IsScope s.now }
+    ensures answer { AnswersAs valued_of ((arg_meaning a.now).means.value (env_of V.bound s.now)) result }
+    ensures own { IfErr result IsOwn }
+{
+    let operand = eval_operand(alloc, &a.value, s, steps)?;
+    owned(alloc, operand, steps)
+}
+
 /// The values of all arguments in order, or the first fault.
 #[cycle(eval)]
 #[tactic(auto, using(session_model::proofs::InOrder::in_order))]
@@ -241,8 +257,8 @@ pub fn values_of_each<V: Vars, L: Ledger>(
 {
     let mut done = Vec::new(alloc);
     for a in args {
-        let operand = eval_operand(alloc, &a.value, s, steps)?;
-        add(&mut done, owned(alloc, operand, steps)?)?;
+        let value = eval_argument(alloc, a, s, steps)?;
+        add(&mut done, value)?;
     }
     Ok(done)
 }

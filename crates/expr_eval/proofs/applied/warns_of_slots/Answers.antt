@@ -1,7 +1,7 @@
 use Rattle.std.proofs.Common.{ap, ◌∙◌}
 use Rattle.dt_base.specs.Warns.{both_warns}
 use Rattle.session_model.specs.Expression.{slot_warns}
-use Rattle.expr_eval.proofs.Warned.{warns_at}
+use Rattle.expr_eval.proofs.NextOne.{warns_at}
 use Rattle.expr_eval.proofs.applied.warns_of_slots.Goals as goal
 use Rattle.expr_eval.specs.Slots.{slot_of}
 

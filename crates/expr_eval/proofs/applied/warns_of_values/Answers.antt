@@ -1,6 +1,6 @@
 use Rattle.session_model.specs.Expression.{warns_in}
 use Rattle.vec_funcs.specs.Valued.{valued_of}
-use Rattle.expr_eval.proofs.Warned.{warns_at}
+use Rattle.expr_eval.proofs.NextOne.{warns_at}
 use Rattle.expr_eval.proofs.applied.warns_of_values.Goals as goal
 
 pub loop-v-preserved : goal.loop-v-preserved

@@ -1,0 +1,16 @@
+use Rattle.std.proofs.Common.{◌∙◌, ◌+◌, [], ◌∷◌, ap, length, map, length-append}
+use Rattle.std.proofs.lemmas.List.{map-append}
+use Rattle.session_model.specs.Meaning.{arg_meaning}
+use Rattle.session_model.specs.Meanings.{ArgMeaning}
+use Rattle.vec_funcs.specs.Valued.{valued_of}
+use Rattle.expr_eval.proofs.NextOne.{each_at}
+use Rattle.expr_eval.proofs.values.+eval.Goals as goal
+use Rattle.expr_eval.specs.Scope.{env_of}
+
+pub values_of_each-loop-a-preserved : goal.values_of_each-loop-a-preserved
+values_of_each-loop-a-preserved g t c = (
+  each_at arg_meaning (λ (m : ArgMeaning). m.means.value (env_of g.V.Vars.bound c.args.s.now)) _ (map valued_of c.loop-a.done.items) (map valued_of c.add.new.list.items)
+      c.args.args.now c.loop-a.a-index c.a-item.result (valued_of c.in_ok-value.value) c.loop-a.invariant.0 c.loop-a-test.true c.a-item.is c.in_ok-value.ensures.answer
+      (ap (map valued_of) c.in_ok-add.ensures.ok ∙ map-append valued_of c.loop-a.done.items (c.in_ok-value.value ∷ [])),
+  ap length c.in_ok-add.ensures.ok ∙ (length-append c.loop-a.done.items (c.in_ok-value.value ∷ []) ∙ ap (λ k. k + 1) c.loop-a.invariant.1),
+)
