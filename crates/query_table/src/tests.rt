@@ -2,6 +2,7 @@ ghost use Rattle.std.specs.Prelude.{◌≡◌, ◌<◌};
 
 mod chains;
 mod columns;
+mod commands;
 mod functions;
 mod later;
 mod manual;
@@ -9,6 +10,7 @@ mod rows;
 
 use crate::tests::chains::CHAINS;
 use crate::tests::columns::COLUMNS;
+use crate::tests::commands::COMMANDS;
 use crate::tests::functions::FUNCTIONS;
 use crate::tests::later::LATER;
 use crate::tests::manual::MANUAL;
@@ -98,7 +100,7 @@ fn all_rows<L: Ledger, R: Abort>(rt: &R, alloc: Global, blank: Blank) -> Result<
     Ok(())
 }
 
-/// The rows about chains of brackets, and about what nothing serves yet.
+/// The rows about chains of brackets, about commands, and about what nothing serves yet.
 fn all_chains<L: Ledger, R: Abort>(rt: &R, alloc: Global, blank: Blank) -> Result<(), Fail>
     requires name { blank.name ≡ L.name }
     requires parts { blank.parts ≡ L.parts }
@@ -106,6 +108,7 @@ fn all_chains<L: Ledger, R: Abort>(rt: &R, alloc: Global, blank: Blank) -> Resul
 {
     let mut steps = Steps::<L>::new(blank);
     check_rows(rt, alloc, TABLE, &CHAINS, &mut steps)?;
+    check_rows(rt, alloc, TABLE, &COMMANDS, &mut steps)?;
     check_rows(rt, alloc, TABLE, &LATER, &mut steps)?;
     Ok(())
 }
@@ -151,7 +154,7 @@ fn lives<L: Ledger, R: Abort>(
 }
 
 const NAMES: &str =
-    "D <- data.table(a = 1:2)\nE <- D[]\nF <- D[,][]\nrm(D)\nG <- E[TRUE]\nG <- E[, .(a)]\nx <- E[, a]\nE\n";
+    "D <- data.table(a = 1:2)\nE <- D[]\nF <- D[,][]\nrm(D)\nG <- E[TRUE]\nG <- E[, .(a)]\nx <- E[, a]\nE\nH <- (E[])\ncopy(H)\n(H)\n";
 
 /// An empty bracket gives one more name of the same table; any other bracket a table of its own, or
 /// a vector.
@@ -162,7 +165,10 @@ fn check_lives<L: Ledger, R: Abort>(rt: &R, alloc: Global, blank: Blank) -> Resu
 {
     let mut steps = Steps::<L>::new(blank);
     let seen = lives(rt, alloc, NAMES, &mut steps)?;
-    assert_eq!(rt; seen.as_slice(), [1usize, 1, 1, 1, 2, 2, 2, 2].as_slice());
+    assert_eq!(rt;
+        seen.as_slice(),
+        [1usize, 1, 1, 1, 2, 2, 2, 2, 2, 2, 2].as_slice()
+    );
     Ok(())
 }
 

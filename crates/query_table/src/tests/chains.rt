@@ -2,7 +2,7 @@
 use crate::tests::Row;
 
 /// Of the same table and vector.
-pub const CHAINS: [Row; 58] = [
+pub const CHAINS: [Row; 75] = [
     ("D[a > 0L][, .(k = a)][1L, k]", "[1] 5\n", ""),
     ("D[][1L, a]", "[1] 5\n", ""),
     ("(D)[1L, a]", "[1] 5\n", ""),
@@ -178,6 +178,67 @@ pub const CHAINS: [Row; 58] = [
     ),
     (
         "data.table(k = 9223372036854775807L + 1L, nosuch)",
+        "",
+        "Error E02 at line 3: unknown name 'nosuch'\n",
+    ),
+    ("x[]", "", "Error E20 at line 3: 'x' is not a table\n"),
+    ("D[, a][]", "", "Error E20 at line 3: '[' is not a table\n"),
+    (
+        "((x))[foo = 1L]",
+        "",
+        "Error E20 at line 3: 'x' is not a table\n",
+    ),
+    (
+        "(x + 1L)[1L]",
+        "",
+        "Error E20 at line 3: '[' is not a table\n",
+    ),
+    ("Inf[1L]", "", "Error E04 at line 3: wrong type in Inf\n"),
+    (
+        "nosuch(1L)[foo = 1L]",
+        "",
+        "Error E02 at line 3: unknown name 'nosuch'\n",
+    ),
+    (
+        "fread(\"absent.csv\")[nosuch]",
+        "",
+        "Error E15 at line 3: no file 'absent.csv'\n",
+    ),
+    ("E <- (D)\nrm(D)\nE[, .N]", "[1] 3\n", ""),
+    ("D[1L][2L][3L, a]", "[1] NA\n", ""),
+    (
+        "D[as.integer(\"q\")][, .(as.logical(7L))]",
+        "     V1\n1: TRUE\n",
+        "Warning W01 at line 3: integer became TRUE\nWarning W02 at line 3: text became NA\n",
+    ),
+    (
+        "y <- D[1L, a][1L]",
+        "",
+        "Error E20 at line 3: '[' is not a table\n",
+    ),
+    (
+        "D[1L, a] + 1L",
+        "",
+        "Error E04 at line 3: wrong type in [\n",
+    ),
+    ("-x[1L]", "", "Error E04 at line 3: wrong type in [\n"),
+    (
+        "sum(D[1L, nosuch])",
+        "",
+        "Error E04 at line 3: wrong type in [\n",
+    ),
+    (
+        ".N <- 7L\n.N\ndata.table(.N)\nD[, .N]",
+        "[1] 7\n   V1\n1:  7\n[1] 3\n",
+        "",
+    ),
+    (
+        "data.table(x, `.N` = 1L)",
+        "   V1 .N\n1:  2  1\n2:  3  1\n",
+        "",
+    ),
+    (
+        "data.table(nosuch, D)",
         "",
         "Error E02 at line 3: unknown name 'nosuch'\n",
     ),

@@ -2,7 +2,7 @@
 use crate::tests::Row;
 
 /// Of the same table and vector.
-pub const COLUMNS: [Row; 59] = [
+pub const COLUMNS: [Row; 99] = [
     ("D[, a]", "[1] 5 NA -7\n", ""),
     ("D[, \"a\"]", "    a\n1:  5\n2: NA\n3: -7\n", ""),
     (
@@ -206,4 +206,132 @@ pub const COLUMNS: [Row; 59] = [
         "Error E02 at line 3: unknown name 'a'\n",
     ),
     ("D[, names(D)]", "[1] \"a\" \"b\" \"s\"\n", ""),
+    ("D[, a, ]", "[1] 5 NA -7\n", ""),
+    ("D[, j = a]", "", "Error E19 at line 3: bad argument 'j'\n"),
+    ("a <- D\nD[, a]", "[1] 5 NA -7\n", ""),
+    (
+        "E <- data.table(`.N` = 8:9)\nE[, .N]\nE[, \".N\"]",
+        "[1] 2\n   .N\n1:  8\n2:  9\n",
+        "",
+    ),
+    (
+        "E <- data.table(`TRUE` = 4L)\nE[, `TRUE`]\nE[, TRUE]",
+        "[1] 4\n[1] TRUE\n",
+        "",
+    ),
+    ("D[, NA_character_]", "[1] NA\n", ""),
+    ("D[, \"\"]", "", "Error E03 at line 3: unknown column ''\n"),
+    ("D[, c(\"a\")]", "    a\n1:  5\n2: NA\n3: -7\n", ""),
+    ("D[, c(\"a\", 1L)]", "[1] \"a\" \"1\"\n", ""),
+    ("D[, c(c(\"a\"))]", "[1] \"a\"\n", ""),
+    ("D[, c(\"a\", (\"s\"))]", "[1] \"a\" \"s\"\n", ""),
+    ("D[, list(\"a\")]", "   V1\n1:  a\n", ""),
+    ("D[, (.(a))]", "", "Error E04 at line 3: wrong type in .\n"),
+    (
+        "D[, data.table(nosuch)]",
+        "",
+        "Error E04 at line 3: wrong type in data.table\n",
+    ),
+    (
+        "D[, list]",
+        "",
+        "Error E03 at line 3: unknown column 'list'\n",
+    ),
+    (
+        "D[, .(s = s, .N, .I)]",
+        "      s N V3\n1:    x 3  1\n2: <NA> 3  2\n3:    y 3  3\n",
+        "",
+    ),
+    ("D[, .(a = x, x)]", "   a V2\n1: 2  2\n2: 3  3\n", ""),
+    (
+        "D[, .(nrow(D), a)]",
+        "   V1  a\n1:  3  5\n2:  3 NA\n3:  3 -7\n",
+        "",
+    ),
+    ("D[(b), nrow(D)]", "[1] 3\n", ""),
+    ("D[x, .(a, x)]", "    a V2\n1: NA  2\n2: -7  3\n", ""),
+    ("D[3:2, .(.I, a)]", "   V1  a\n1:  3 -7\n2:  2 NA\n", ""),
+    ("D[c(2L, 2L)][c(TRUE, FALSE), .I]", "[1] 1\n", ""),
+    ("D[c(3L, 9L), sum(.I)]", "[1] NA\n", ""),
+    ("D[0L, .N]", "[1] 0\n", ""),
+    (
+        "D[0L, .(.N, .I)]",
+        "",
+        "Error E05 at line 3: length 0 where 1 is wanted\n",
+    ),
+    (
+        "D[, x == a]",
+        "",
+        "Error E05 at line 3: length 3 where 2 is wanted\n",
+    ),
+    (
+        "D[, .(a, b, b, a)]",
+        "",
+        "Error E12 at line 3: duplicate name 'b'\n",
+    ),
+    (
+        "D[, .(k = a, k = b)]",
+        "",
+        "Error E12 at line 3: duplicate name 'k'\n",
+    ),
+    (
+        "E <- data.table(N = 1:2)\nE[, .(N, .N)]",
+        "",
+        "Error E12 at line 4: duplicate name 'N'\n",
+    ),
+    (
+        "E <- data.table(V1 = 1:2)\nE[, .(V1 + 1L, V1)]",
+        "",
+        "Error E12 at line 4: duplicate name 'V1'\n",
+    ),
+    (
+        "D[, .(a, a, x)]",
+        "",
+        "Error E05 at line 3: length 2 where 3 is wanted\n",
+    ),
+    (
+        "D[, .(x, a * 9223372036854775807L, a)]",
+        "",
+        "Error E06 at line 3: integer overflow in *\n",
+    ),
+    (
+        "D[, .(a + x, sum(s))]",
+        "",
+        "Error E04 at line 3: wrong type in sum\n",
+    ),
+    (
+        "D[, .(a, sum(a, foo = 1L), nosuch)]",
+        "",
+        "Error E19 at line 3: bad argument 'foo'\n",
+    ),
+    (
+        "D[, .(sum(a, na.rm = b))]",
+        "",
+        "Error E19 at line 3: bad argument 'na.rm'\n",
+    ),
+    (
+        "D[nosuch(1L), foo = 2L]",
+        "",
+        "Error E19 at line 3: bad argument 'foo'\n",
+    ),
+    (
+        "D[c(-1L, 2L), \"zz\"]",
+        "",
+        "Error E13 at line 3: positive and negative positions mixed\n",
+    ),
+    (
+        "D[as.integer(\"q\"), .(as.integer(\"r\"))]",
+        "   V1\n1: NA\n",
+        "Warning W02 at line 3: text became NA\n",
+    ),
+    (
+        "D[as.integer(\"q\"), nosuch]",
+        "",
+        "Error E03 at line 3: unknown column 'nosuch'\n",
+    ),
+    (
+        "D[1L,\nnosuch]",
+        "",
+        "Error E03 at line 3: unknown column 'nosuch'\n",
+    ),
 ];

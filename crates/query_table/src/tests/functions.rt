@@ -2,7 +2,7 @@
 use crate::tests::Row;
 
 /// Of the vectors a, b and s, the columns of the table; e, f and g are integers, logicals and texts without a cell.
-pub const FUNCTIONS: [Row; 133] = [
+pub const FUNCTIONS: [Row; 139] = [
     ("sum(a)", "[1] NA\n", ""),
     ("sum(a, na.rm = TRUE)", "[1] -2\n", ""),
     ("sum(b)", "[1] NA\n", ""),
@@ -284,4 +284,34 @@ pub const FUNCTIONS: [Row; 133] = [
     ("print(a)", "[1] 5 NA -7\n", ""),
     ("y <- NULL", "", "Error E19 at line 8: bad argument 'y'\n"),
     ("NULL", "NULL\n", ""),
+    (
+        "fifelse(1L, nosuch, 2L)",
+        "",
+        "Error E02 at line 8: unknown name 'nosuch'\n",
+    ),
+    (
+        "fifelse(b, 1L, c(\"p\", \"q\"))",
+        "",
+        "Error E05 at line 8: length 2 where 3 is wanted\n",
+    ),
+    (
+        "c(1L, nosuch, k = 1L)",
+        "",
+        "Error E19 at line 8: bad argument 'k'\n",
+    ),
+    (
+        "sum(a, na.rm = NULL)",
+        "",
+        "Error E19 at line 8: bad argument 'na.rm'\n",
+    ),
+    (
+        "sum(data.table(nosuch))",
+        "",
+        "Error E04 at line 8: wrong type in data.table\n",
+    ),
+    (
+        "nosuch(foo = nosuch)",
+        "",
+        "Error E02 at line 8: unknown name 'nosuch'\n",
+    ),
 ];

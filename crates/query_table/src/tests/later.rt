@@ -2,7 +2,7 @@
 use crate::tests::Row;
 
 /// Of the same table and vector.
-pub const LATER: [Row; 46] = [
+pub const LATER: [Row; 59] = [
     (
         "D[, .N, by = b]",
         "",
@@ -220,5 +220,66 @@ pub const LATER: [Row; 46] = [
         "nosuch(a)",
         "",
         "Error E02 at line 3: unknown name 'nosuch'\n",
+    ),
+    (
+        "D[.(nosuch)]",
+        "",
+        "Error E19 at line 3: bad argument 'unbuilt'\n",
+    ),
+    (
+        "D[D, nosuch]",
+        "",
+        "Error E19 at line 3: bad argument 'unbuilt'\n",
+    ),
+    (
+        "D[\"x\", nosuch]",
+        "",
+        "Error E19 at line 3: bad argument 'unbuilt'\n",
+    ),
+    (
+        "D[(\"x\")]",
+        "",
+        "Error E19 at line 3: bad argument 'unbuilt'\n",
+    ),
+    (
+        "y <- \"x\"\nD[y]",
+        "",
+        "Error E19 at line 4: bad argument 'unbuilt'\n",
+    ),
+    (
+        "b <- D\nD[!b]",
+        "",
+        "Error E19 at line 4: bad argument 'unbuilt'\n",
+    ),
+    (
+        "D[!(D[1L])]",
+        "",
+        "Error E19 at line 3: bad argument 'unbuilt'\n",
+    ),
+    (
+        "D[(data.table(a = 1L))]",
+        "",
+        "Error E19 at line 3: bad argument 'unbuilt'\n",
+    ),
+    (
+        "D[1L, foo = .SD]",
+        "",
+        "Error E19 at line 3: bad argument 'unbuilt'\n",
+    ),
+    (
+        "D[nosuch(order(a))]",
+        "",
+        "Error E19 at line 3: bad argument 'unbuilt'\n",
+    ),
+    (
+        "D[D, foo = 1L]",
+        "",
+        "Error E19 at line 3: bad argument 'foo'\n",
+    ),
+    ("D[!c(\"a\")]", "", "Error E04 at line 3: wrong type in !\n"),
+    (
+        "D[, (.SD)]",
+        "",
+        "Error E19 at line 3: bad argument 'unbuilt'\n",
     ),
 ];

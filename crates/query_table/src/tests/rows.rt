@@ -2,7 +2,7 @@
 use crate::tests::Row;
 
 /// Of the table a = 5, NA, -7; b = TRUE, NA, FALSE; s = "x", NA, "y"; x is 2, 3.
-pub const ROWS: [Row; 52] = [
+pub const ROWS: [Row; 80] = [
     ("D[b]", "", "Error E02 at line 3: unknown name 'b'\n"),
     (
         "D[TRUE]",
@@ -171,4 +171,80 @@ pub const ROWS: [Row; 52] = [
         "Empty data.table (0 rows and 3 cols): a,b,s\n",
         "",
     ),
+    (
+        "D[-1:2]",
+        "",
+        "Error E13 at line 3: positive and negative positions mixed\n",
+    ),
+    ("D[-9:-2]", "   a    b s\n1: 5 TRUE x\n", ""),
+    (
+        "D[.N:1L]",
+        "    a     b    s\n1: -7 FALSE    y\n2: NA    NA <NA>\n3:  5  TRUE    x\n",
+        "",
+    ),
+    (
+        "D[-.I]",
+        "Empty data.table (0 rows and 3 cols): a,b,s\n",
+        "",
+    ),
+    (
+        "D[-c(0L, 0L)]",
+        "Empty data.table (0 rows and 3 cols): a,b,s\n",
+        "",
+    ),
+    (
+        "D[c(NA, NA, NA)]",
+        "Empty data.table (0 rows and 3 cols): a,b,s\n",
+        "",
+    ),
+    (
+        "D[c(NA_integer_, 0L)]",
+        "    a  b    s\n1: NA NA <NA>\n",
+        "",
+    ),
+    ("D[is.na(a) | NA]", "    a  b    s\n1: NA NA <NA>\n", ""),
+    (
+        "D[fifelse(b, 1L, 3L)]",
+        "    a     b    s\n1:  5  TRUE    x\n2: NA    NA <NA>\n3: -7 FALSE    y\n",
+        "",
+    ),
+    ("D[first(a)]", "    a  b    s\n1: NA NA <NA>\n", ""),
+    ("D[`.N`]", "    a     b s\n1: -7 FALSE y\n", ""),
+    (".N <- 1L\nD[.N]", "    a     b s\n1: -7 FALSE y\n", ""),
+    (
+        "y <- TRUE\nD[y]",
+        "    a     b    s\n1:  5  TRUE    x\n2: NA    NA <NA>\n3: -7 FALSE    y\n",
+        "",
+    ),
+    ("a <- 2L\nD[a]", "    a  b    s\n1: NA NA <NA>\n", ""),
+    ("a <- 2L\nD[a > 0L]", "   a    b s\n1: 5 TRUE x\n", ""),
+    ("b <- D\nD[(b)]", "   a    b s\n1: 5 TRUE x\n", ""),
+    ("b <- D\nD[!(b)]", "    a     b s\n1: -7 FALSE y\n", ""),
+    ("D[!x]", "", "Error E04 at line 3: wrong type in !\n"),
+    ("D[!a]", "", "Error E04 at line 3: wrong type in !\n"),
+    ("D[!(D)]", "", "Error E04 at line 3: wrong type in D\n"),
+    ("D[-D]", "", "Error E04 at line 3: wrong type in D\n"),
+    ("D[-D[1L]]", "", "Error E04 at line 3: wrong type in [\n"),
+    (
+        "D[nosuch(a)]",
+        "",
+        "Error E02 at line 3: unknown name 'nosuch'\n",
+    ),
+    (
+        "D[print(a)]",
+        "",
+        "Error E19 at line 3: bad argument 'print'\n",
+    ),
+    (
+        "D[0L][.N]",
+        "Empty data.table (0 rows and 3 cols): a,b,s\n",
+        "",
+    ),
+    (
+        "D[0L][c(TRUE, FALSE)]",
+        "",
+        "Error E05 at line 3: length 2 where 0 is wanted\n",
+    ),
+    ("D[1L, , ]", "   a    b s\n1: 5 TRUE x\n", ""),
+    ("D[i = 1L]", "", "Error E19 at line 3: bad argument 'i'\n"),
 ];
