@@ -7,7 +7,8 @@ use Rattle.session_model.specs.Columns.{form_name, numbered_name}
 use Rattle.session_model.specs.Form.{Form, Literal, Negative, NullWord, InfWord, BareName, NotName, Other, name_in}
 use Rattle.session_model.specs.Meaning.{minus_form, not_form}
 use Rattle.session_model.specs.Meanings.{Meaning}
-use Rattle.session_model.specs.Query.{checked_value, i_by_form, i_name, i_not_name}
+use Rattle.session_model.specs.Expression.{checked_value}
+use Rattle.session_model.specs.Query.{i_by_form, i_name, i_not_name}
 
 -- ---- `-` before an expression is no negated name, and `!` before a name is one
 

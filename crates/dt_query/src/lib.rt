@@ -2,14 +2,14 @@
 //!
 //! - `run_query` answers a bracket: the same table, a table of its own, or a vector (`Outcome`), with
 //!   the warnings of i and of j (`Answer`). `Options` are the session's, for indices.
-//! - `columns` answers a list of expressions over any surroundings: the items of `.( )`, or the
-//!   arguments of `data.table`. Lists and texts as a j go the same way.
+//! - `columns` answers a list of expressions as a j: the items of `.( )`. Texts as a j go the same way.
+//! - `arguments` answers the arguments of `data.table`, each checked and valued before the next.
 //!
 //! It stands on `expr_eval` for the types and values of expressions, on `row_choice` for the rows that
 //! an i chooses and for columns of one length, and on `dt_table` for the table that is made.
 //!
 //! It promises that a bracket gives what the definition `bracket_answer` says of it, over the plain
-//! reading of the table, and a list what `columns_answer` says: the same answer with the same warnings,
+//! reading of the table, and a list what `columns_answer` or `arguments_answer` says: the same answer with the same warnings,
 //! or the same fault, the first in the order of the language. Want of memory is the one other answer,
 //! and no fault blames a file. A third item, an assignment, and a join as i are not served, and are
 //! told as `unbuilt` where the definition tells them.
@@ -32,5 +32,5 @@ mod tables;
 mod texts;
 
 pub use answer::{Answer, Options, Outcome};
-pub use lists::columns;
+pub use lists::{arguments, columns};
 pub use query::run_query;

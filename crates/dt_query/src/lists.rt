@@ -7,12 +7,13 @@ ghost use Rattle.dt_table.specs.Table.{IsFilled};
 ghost use Rattle.expr_eval.specs.Scope.{env_of, IsScope};
 ghost use Rattle.expr_model.specs.Lengths.{repeated};
 ghost use Rattle.na_vector.specs.Frame.{rows_with, vectors_of};
-ghost use Rattle.session_model.specs.Columns.{columns_answer, list_answer, list_table, values_answer};
-ghost use Rattle.session_model.specs.Expression.{vector_in};
+ghost use Rattle.session_model.specs.Columns.{arguments_answer, columns_answer, list_answer, list_table, values_answer};
+ghost use Rattle.session_model.specs.Expression.{checked_value, each_argument, vector_in};
 ghost use Rattle.session_model.specs.Meaning.{arg_meaning};
 ghost use Rattle.vec_funcs.specs.Valued.{valued_of};
 
 use crate::names::item_names;
+use crate::rows::checked_value;
 use crate::tables::new_table;
 use crate::{Answer, Outcome};
 use arg_bind::{EvalFail, stop};
@@ -84,13 +85,12 @@ fn values_answer<L: Ledger>(
     })
 }
 
-/// The table that a list of expressions gives: the items of `.( )` in a bracket, or the arguments of
-/// `data.table` outside.
+/// The table that a list of expressions gives as the j of a bracket: the items of `.( )`.
 ///
 /// All types are looked at before any value. A value has length 1 or that of the longest, else it is
 /// E05. Then a name that stands twice is E12 with it, and a table past a limit E07, E08 or E09. Each
 /// value is made once and becomes the column. The manual's page data.table; the order is dtq's own,
-/// docs/LANGUAGE.md, section "Tables".
+/// docs/LANGUAGE.md, section "Brackets".
 pub fn columns<V: Vars, L: Ledger>(
     alloc: Global,
     args: &[Arg],
@@ -103,6 +103,60 @@ pub fn columns<V: Vars, L: Ledger>(
 {
     kinds_of_each(alloc, args, s)?;
     let values = values_of_each(alloc, args, s, steps)?;
+    let names = item_names(alloc, s, args)?;
+    values_answer(alloc, &names, values, steps)
+}
+
+/// The value of an argument, whose type is looked at first.
+fn argument_value<V: Vars, L: Ledger>(
+    alloc: Global,
+    a: &Arg,
+    s: &Scope<'_, V>,
+    steps: &mut Steps<L>,
+) -> Result<Valued, EvalFail>
+    requires { IsScope s.now }
+    ensures answer { AnswersAs valued_of (checked_value (arg_meaning a.now).means (env_of V.bound s.now)) result }
+    ensures own { IfErr result IsOwn }
+{
+    checked_value(alloc, &a.value, s, steps)
+}
+
+/// The values of expressions, each checked and valued before the next one is looked at.
+fn values_in_turn<V: Vars, L: Ledger>(
+    alloc: Global,
+    args: &[Arg],
+    s: &Scope<'_, V>,
+    steps: &mut Steps<L>,
+) -> Result<Vec<Valued>, EvalFail>
+    requires { IsScope s.now }
+    ensures answer { AnswersAs (λ v. map valued_of v.items) (each_argument (λ m. checked_value m (env_of V.bound s.now)) (map arg_meaning args.now)) result }
+    ensures count { IfOk result (λ v. length v.items ≡ length args.now) }
+    ensures own { IfErr result IsOwn }
+{
+    let mut values = Vec::new(alloc);
+    for a in args {
+        let value = argument_value(alloc, a, s, steps)?;
+        values.push(value)?;
+    }
+    Ok(values)
+}
+
+/// The table that the arguments of `data.table` give, each an expression over the script's names.
+///
+/// The type and the value of one argument come before the next argument is looked at. Lengths, names and
+/// limits are those of `columns`. The manual's page data.table; the order is dtq's own,
+/// docs/LANGUAGE.md, section "Tables".
+pub fn arguments<V: Vars, L: Ledger>(
+    alloc: Global,
+    args: &[Arg],
+    s: &Scope<'_, V>,
+    steps: &mut Steps<L>,
+) -> Result<Answer, EvalFail>
+    requires { IsScope s.now }
+    ensures answer { AnswersAs plain_answer (arguments_answer (map arg_meaning args.now) (env_of V.bound s.now)) result }
+    ensures own { IfErr result IsOwn }
+{
+    let values = values_in_turn(alloc, args, s, steps)?;
     let names = item_names(alloc, s, args)?;
     values_answer(alloc, &names, values, steps)
 }

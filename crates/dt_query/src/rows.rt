@@ -6,8 +6,9 @@ ghost use Rattle.dt_table.specs.Plain.{plain};
 ghost use Rattle.expr_eval.specs.Scope.{env_of, IsScope};
 ghost use Rattle.func_table.specs.Special.{special_of};
 ghost use Rattle.na_vector.specs.Frame.{rows_with};
+ghost use Rattle.session_model.specs.Expression.{checked_value};
 ghost use Rattle.session_model.specs.Meaning.{meaning};
-ghost use Rattle.session_model.specs.Query.{checked_value, i_variable, i_name, i_not_variable, i_not_name, i_by_form, i_value, of_columns, rows_by, rows_of_i};
+ghost use Rattle.session_model.specs.Query.{i_variable, i_name, i_not_variable, i_not_name, i_by_form, i_value, of_columns, rows_by, rows_of_i};
 ghost use Rattle.vec_funcs.specs.Valued.{valued_of};
 ghost use Rattle.vector_model.specs.Then.{then_do};
 
@@ -33,8 +34,8 @@ pub struct Chosen {
     pub warns: Warns,
 }
 
-/// The type first, then the value.
-fn checked_value<V: Vars, L: Ledger>(
+/// The value of an expression, whose type is looked at first.
+pub fn checked_value<V: Vars, L: Ledger>(
     alloc: Global,
     e: &Expr,
     s: &Scope<'_, V>,

@@ -10,7 +10,8 @@ use Rattle.expr_model.specs.Surroundings.{Env, Var, Table, Vector, var_vector, v
 use Rattle.expr_model.specs.Unbuilt.{unbuilt}
 use Rattle.session_model.specs.Expression.{quiet}
 use Rattle.session_model.specs.Meanings.{Meaning}
-use Rattle.session_model.specs.Query.{checked_value, i_variable, i_not_variable}
+use Rattle.session_model.specs.Expression.{checked_value}
+use Rattle.session_model.specs.Query.{i_variable, i_not_variable}
 
 -- the name of a vector gives the vector
 pub vector_found : (code : Code) (name : List ℕ) (o : Option Var) (v : Cells) → Some v ≡ vector_bound o → var_vector code name o ≡ Ok v

@@ -23,7 +23,7 @@ use Rattle.vector_model.specs.Then.{then_do}
 use Rattle.expr_model.specs.Surroundings.{outside}
 use Rattle.expr_model.specs.Unbuilt.{unbuilt}
 use Rattle.session_model.specs.Binding.{bound, place_of, is_free}
-use Rattle.session_model.specs.Columns.{columns_answer}
+use Rattle.session_model.specs.Columns.{arguments_answer}
 use Rattle.session_model.specs.Effect.{Effect, Remove, prints, writes, changes, does_nothing}
 use Rattle.session_model.specs.Expression.{names_in, arg_at}
 use Rattle.session_model.specs.Form.{Form, text_in, name_in}
@@ -72,7 +72,7 @@ given_of a = Ok (record { value = value_after Null a.outcome; warns = a.warns })
 
 -- `data.table` of any expressions over the script's names
 abbrev pub data_table : List ArgMeaning → Scene → Result Given Fault
-data_table args w = then_do (columns_answer args (outside (vars_of w.state))) given_of
+data_table args w = then_do (arguments_answer args (outside (vars_of w.state))) given_of
 
 -- a table function, once its arguments are bound
 abbrev pub table_call : Func → List ArgMeaning → Scene → Result Given Fault

@@ -1,7 +1,8 @@
 -- Tables that lists of expressions give, as columns side by side.
 --   item_name s p a      the name of the column that the item a gives at place p, counted from 1
 --   list_table names vs  the table of these vectors, each brought to the length of the longest
---   columns_answer args s    what `.( )` gives of its items, and `data.table` of its arguments
+--   columns_answer args s    what `.( )` gives of its items
+--   arguments_answer args s  what `data.table` gives of its arguments
 --   list_answer w args s     the same of one item or more; of none it is a fault with the word w
 --   text_columns names s     what the names of columns give: these columns
 --   vector_answer check value s    what any other expression gives: a vector
@@ -21,7 +22,7 @@ use Rattle.vector_model.specs.Functions.{Valued}
 use Rattle.vector_model.specs.Then.{then_do}
 use Rattle.expr_model.specs.Lengths.{common_length, repeated}
 use Rattle.expr_model.specs.Surroundings.{Env, column_named}
-use Rattle.session_model.specs.Expression.{all_warns, each, each_argument, vector_in, warns_in}
+use Rattle.session_model.specs.Expression.{all_warns, checked_value, each, each_argument, vector_in, warns_in}
 use Rattle.session_model.specs.Form.{Form, BareName}
 use Rattle.session_model.specs.Meanings.{Meaning, ArgMeaning, Answer, Outcome}
 use Rattle.session_model.specs.Meanings as gives
@@ -83,6 +84,11 @@ abbrev pub columns_answer : List ArgMeaning → Env → Result Answer Fault
 columns_answer args s =
     then_do (each_argument (λ m. m.check s) args) (λ _.
     then_do (each_argument (λ m. m.value s) args) (values_answer (item_names s 1 args)))
+
+-- the arguments of a table function: each one's type and value, before the next is looked at
+abbrev pub arguments_answer : List ArgMeaning → Env → Result Answer Fault
+arguments_answer args s =
+    then_do (each_argument (λ m. checked_value m s) args) (values_answer (item_names s 1 args))
 
 abbrev pub list_answer : List ℕ → List ArgMeaning → Env → Result Answer Fault
 list_answer word [] s = Err (fault E19 word)

@@ -3,6 +3,7 @@
 --   slots run args ..   what a call gives for each formal, by `run`, which is a type's or a value's
 --   check_tails, value_tails   chains of operators
 --   check_call, value_call     the type and the value of a call
+--   checked_value m s   the value of an expression whose type is looked at just before
 -- Faults come left to right, and what stands inside an expression comes before the expression. A type
 -- depends on no cell. A value repeats the faults of types.
 use Rattle.std.specs.Prelude.{ℕ, Bool, true, false, List, [], ◌∷◌, map, Option, None, Some, Result, Ok, Err, slice_get}
@@ -191,6 +192,10 @@ warned_too w r = then_do r (λ v. Ok (record { vector = v.vector; warns = both_w
 -- a function's value, with the warnings of its arguments
 abbrev pub applied : Func → List (Slot Valued) → Result Valued Fault
 applied f given = warned_too (all_warns (map slot_warns given)) (value_of f (map slot_vector given))
+
+-- the type first, then the value
+abbrev pub checked_value : Meaning → Env → Result Valued Fault
+checked_value m s = then_do (m.check s) (λ _. m.value s)
 
 -- the warnings of a value
 abbrev pub warns_in : Valued → Warns

@@ -28,7 +28,7 @@ use Rattle.expr_model.specs.Surroundings as bound
 use Rattle.expr_model.specs.Unbuilt.{unbuilt}
 use Rattle.session_model.specs.Binding.{word_in}
 use Rattle.session_model.specs.Columns.{gives_columns}
-use Rattle.session_model.specs.Expression.{quiet}
+use Rattle.session_model.specs.Expression.{checked_value, quiet}
 use Rattle.session_model.specs.Form.{Form, BareName, NotName}
 use Rattle.session_model.specs.Meanings.{Outcome, Same, Answer, Meaning, ArgMeaning, SecondMeaning, Computes, Assigns, BracketMeaning}
 use Rattle.session_model.specs.Meanings as gives
@@ -45,10 +45,6 @@ abbrev pub vars_of : State → Vars
 vars_of s name = var_of s (finite.get s.names name)
 
 -- ---- i
-
--- the type first, then the value
-abbrev pub checked_value : Meaning → Env → Result Valued Fault
-checked_value m s = then_do (m.check s) (λ _. m.value s)
 
 -- the vector that a script's name gives; the name of a table is a join, which is not served
 abbrev pub i_variable : List ℕ → Option Var → Result Valued Fault

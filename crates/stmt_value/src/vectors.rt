@@ -8,7 +8,7 @@ use crate::given::{Given, Value};
 use crate::vars::{ScriptNames, outside};
 use arg_bind::EvalFail;
 use dt_base::Steps;
-use dt_query::columns;
+use dt_query::arguments;
 use dt_tree::{Arg, Expr};
 use expr_eval::{check, eval};
 use na_vector::Frame;
@@ -52,7 +52,7 @@ pub fn table_value<'a, L: Ledger>(
     let names = ScriptNames { heap };
     let empty = Frame::new(alloc);
     let scope = outside(&empty, &names);
-    let answer = columns(alloc, args, &scope, steps)?;
+    let answer = arguments(alloc, args, &scope, steps)?;
     // Columns give a table, so nothing stays of what was before it.
     Ok(Given {
         value: Value::Null.after(answer.outcome),
