@@ -179,7 +179,7 @@ pub const CHAINS: [Row; 75] = [
     (
         "data.table(k = 9223372036854775807L + 1L, nosuch)",
         "",
-        "Error E02 at line 3: unknown name 'nosuch'\n",
+        "Error E06 at line 3: integer overflow in +\n",
     ),
     ("x[]", "", "Error E20 at line 3: 'x' is not a table\n"),
     ("D[, a][]", "", "Error E20 at line 3: '[' is not a table\n"),
