@@ -1,4 +1,4 @@
-ghost use Rattle.std.specs.Prelude.{◌≡◌, ◌≤◌, ◌⊎◌, IfOk, IfErr, All, length, map};
+ghost use Rattle.std.specs.Prelude.{◌≡◌, ◌≤◌, ◌⊎◌, ◌++◌, ◌∷◌, [], IfOk, IfErr, OnOk, All, length, map};
 ghost use Rattle.arg_bind.specs.Answers.{AnswersAs, IsOwn};
 ghost use Rattle.dt_base.specs.declared.limits.TheConstants.{MAX_ROWS};
 ghost use Rattle.dt_query.specs.Answers.{plain_answer};
@@ -121,6 +121,14 @@ fn argument_value<V: Vars, L: Ledger>(
     checked_value(alloc, &a.value, s, steps)
 }
 
+/// Puts a value behind the others.
+fn push_value(values: &mut Vec<Valued>, value: Valued) -> Result<(), AllocError>
+    ensures { OnOk result (values.new.items ≡ values.old.items ++ value ∷ []) }
+{
+    values.push(value)?;
+    Ok(())
+}
+
 /// The values of expressions, each checked and valued before the next one is looked at.
 fn values_in_turn<V: Vars, L: Ledger>(
     alloc: Global,
@@ -136,7 +144,7 @@ fn values_in_turn<V: Vars, L: Ledger>(
     let mut values = Vec::new(alloc);
     for a in args {
         let value = argument_value(alloc, a, s, steps)?;
-        values.push(value)?;
+        push_value(&mut values, value)?;
     }
     Ok(values)
 }
