@@ -4,4 +4,5 @@ pub mod Given
 pub mod NextOne
 pub mod Plain
 pub mod Refused
+pub mod Touched
 pub mod Vectors

@@ -1,9 +1,10 @@
-ghost use Rattle.std.specs.Prelude.{◌≡◌, map, IfErr};
+ghost use Rattle.std.specs.Prelude.{◌≡◌, ◌+◌, ◌≤◌, map, IfErr};
 ghost use Rattle.arg_bind.specs.Answers.{AnswersAs, IsOwn};
 ghost use Rattle.expr_eval.specs.Slots.{slot_of};
 ghost use Rattle.expr_model.specs.Functions.{one_value, flagged_value, three_value, value_of, value_of_one, value_of_two, value_of_three};
 ghost use Rattle.session_model.specs.Expression.{slot_vector, slot_warns, all_warns, warns_in, applied, combined};
-ghost use Rattle.vec_funcs.specs.Valued.{valued_of};
+ghost use Rattle.dt_model.specs.Combine.{total_length};
+ghost use Rattle.vec_funcs.specs.Valued.{valued_of, vector_in};
 
 use crate::operands::Operand;
 use crate::operations::{choice_value, conversion, na_test};
@@ -207,6 +208,7 @@ pub fn combined<L: Ledger>(
 ) -> Result<Valued, EvalFail>
     ensures answer { AnswersAs valued_of (combined (map valued_of values.now)) result }
     ensures own { IfErr result IsOwn }
+    ensures touches { steps.new ≤ steps.old + total_length (map vector_in values.now) }
 {
     let column = combine(alloc, values, steps)?;
     Ok(Valued {

@@ -1,4 +1,4 @@
-ghost use Rattle.std.specs.Prelude.{◌≡◌, ◌<◌, ◌≤◌, ◌^◌, length, pos, map, Ok, IfOk, IfErr};
+ghost use Rattle.std.specs.Prelude.{◌≡◌, ◌+◌, ◌<◌, ◌≤◌, ◌^◌, length, pos, map, Ok, IfOk, IfErr};
 ghost use Rattle.arg_bind.specs.Answers.{AnswersAs, IsOwn};
 ghost use Rattle.dt_base.specs.Warns.{no_warns};
 ghost use Rattle.dt_base.specs.declared.cell.Cell.TheVariants as is;
@@ -130,6 +130,7 @@ pub fn copied<L: Ledger>(
 ) -> Result<Valued, EvalFail>
     ensures answer { AnswersAs valued_of (quiet (Ok column.now.vector)) result }
     ensures own { IfErr result IsOwn }
+    ensures touches { steps.new ≡ steps.old + length column.now.vector.cells }
 {
     match column.copy(alloc, steps) {
         Ok(column) => Ok(unwarned(column)),

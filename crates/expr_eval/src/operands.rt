@@ -1,6 +1,7 @@
-ghost use Rattle.std.specs.Prelude.{Ok, IfErr};
+ghost use Rattle.std.specs.Prelude.{◌≡◌, ◌+◌, Ok, IfErr};
 ghost use Rattle.arg_bind.specs.Answers.{AnswersAs, IsOwn};
 ghost use Rattle.expr_eval.specs.Slots.{operand_of};
+ghost use Rattle.expr_eval.specs.Touches.{copied_cells};
 ghost use Rattle.vec_funcs.specs.Valued.{valued_of};
 
 use crate::lent::copied;
@@ -52,6 +53,7 @@ pub fn owned<L: Ledger>(
 ) -> Result<Valued, EvalFail>
     ensures answer { AnswersAs valued_of (Ok (operand_of operand.entry)) result }
     ensures own { IfErr result IsOwn }
+    ensures touches { steps.new ≡ steps.old + copied_cells operand.entry }
 {
     match operand {
         Operand::Own(value) => Ok(value),

@@ -1,10 +1,11 @@
-ghost use Rattle.std.specs.Prelude.{◌≡◌, ◌<◌, length, map, IfOk, IfErr};
+ghost use Rattle.std.specs.Prelude.{◌≡◌, ◌+◌, ◌<◌, ◌≤◌, true, length, map, option_map, All, IfOk, IfErr};
 ghost use Rattle.arg_bind.specs.Answers.{AnswersAs, IsOwn};
 ghost use Rattle.expr_eval.specs.Scope.{env_of, IsScope};
 ghost use Rattle.expr_eval.specs.Slots.{operand_of, slot_of};
+ghost use Rattle.expr_eval.specs.Touches.{is_literal, is_literal_argument, are_literals, joined_cells, call_cells, cells_meant, allowance, Within, IsMadeCell, IsOneCell, still_touched};
 ghost use Rattle.session_model.specs.Expression.{names_in, arg_at, flag_slot, value_tail, value_tails, signed, given, slot_as, slot_at, slots, each_argument, combined, value_vectors, value_kind, value_call};
 ghost use Rattle.session_model.specs.Meaning.{meaning, arg_meaning, tail_meaning, value_in};
-ghost use Rattle.func_table.specs.Calls.{is_flag, kind_of};
+ghost use Rattle.func_table.specs.Calls.{arity_of, func_of, is_flag, kind_of};
 ghost use Rattle.session_model.specs.Binding.{places, place_of};
 ghost use Rattle.vector_model.specs.Then.{then_do};
 ghost use Rattle.vec_funcs.specs.Valued.{valued_of};
@@ -32,7 +33,10 @@ use vec_funcs::Valued;
 /// The faults of `check` come where they come there. Beside them lengths that do not go together are
 /// E05, a result out of range is E06 with the operator or function, too many cells are E07, and NA at
 /// an end of `:` is E19; each where its operator or function is valued, left to right and inner first.
+/// The value of a literal, of `c` of k literals or of the name of a vector of k cells touches at most
+/// 2k + 2 cells, with k as 1 for a literal.
 /// dtq's own rule, docs/LANGUAGE.md, section "Expressions".
+#[tactic(auto, using(crate::proofs::Touched::allowances))]
 pub fn eval<V: Vars, L: Ledger>(
     alloc: Global,
     e: &Expr,
@@ -42,6 +46,7 @@ pub fn eval<V: Vars, L: Ledger>(
     requires { IsScope s.now }
     ensures answer { AnswersAs valued_of (value_in e.now (env_of V.bound s.now)) result }
     ensures own { IfErr result IsOwn }
+    ensures touches { Within (allowance e.now (env_of V.bound s.now)) steps.old steps.new }
 {
     let operand = eval_operand(alloc, e, s, steps)?;
     owned(alloc, operand, steps)
@@ -49,6 +54,7 @@ pub fn eval<V: Vars, L: Ledger>(
 
 /// What an expression gives to be read: the column of a bare name is lent.
 #[cycle(eval)]
+#[tactic(auto, using(crate::proofs::Touched::costs))]
 fn eval_operand<'a, V: Vars, L: Ledger>(
     alloc: Global,
     e: &Expr,
@@ -58,6 +64,9 @@ fn eval_operand<'a, V: Vars, L: Ledger>(
     requires { IsScope s.now }
     ensures answer { AnswersAs operand_of (value_in e.now (env_of V.bound s.now)) result }
     ensures own { IfErr result IsOwn }
+    ensures literal { is_literal e.now ≡ true → IfOk result IsMadeCell }
+    ensures unread { is_literal e.now ≡ true → steps.new ≡ steps.old }
+    ensures touches { Within (cells_meant e.now (env_of V.bound s.now)) steps.old (steps.new + still_touched result) }
 {
     match e {
         Expr::Lit { cell, kind } => Ok(Operand::Own(literal_value(alloc, *kind, cell)?)),
@@ -137,6 +146,7 @@ fn eval_tail<'a, V: Vars, L: Ledger>(
 }
 
 #[cycle(eval)]
+#[tactic(auto, using(crate::proofs::Touched::costs))]
 fn eval_call<'a, V: Vars, L: Ledger>(
     alloc: Global,
     name: &str,
@@ -147,6 +157,7 @@ fn eval_call<'a, V: Vars, L: Ledger>(
     requires { IsScope s.now }
     ensures answer { AnswersAs operand_of (value_call (env_of V.bound s.now) name.now (map arg_meaning args.now)) result }
     ensures own { IfErr result IsOwn }
+    ensures touches { Within (call_cells (option_map arity_of (func_of name.now)) args.now) steps.old (steps.new + still_touched result) }
 {
     match func_named(name) {
         None => Err(later_call(alloc, name)),
@@ -156,6 +167,7 @@ fn eval_call<'a, V: Vars, L: Ledger>(
 
 /// The call of a function: a table function is E04 and a command E19, at once.
 #[cycle(eval)]
+#[tactic(auto, using(crate::proofs::Touched::costs))]
 fn eval_kind<V: Vars, L: Ledger>(
     alloc: Global,
     f: Func,
@@ -166,6 +178,7 @@ fn eval_kind<V: Vars, L: Ledger>(
     requires { IsScope s.now }
     ensures answer { AnswersAs valued_of (value_kind (kind_of f) (env_of V.bound s.now) f (map arg_meaning args.now)) result }
     ensures own { IfErr result IsOwn }
+    ensures touches { Within (joined_cells (arity_of f) args.now) steps.old steps.new }
 {
     match kind_of(f) {
         Kind::Table => Err(stop(alloc, Code::E04, func_word(f))),
@@ -190,6 +203,7 @@ fn eval_description<V: Vars>(
 }
 
 #[cycle(eval)]
+#[tactic(auto, using(crate::proofs::Touched::costs))]
 fn eval_bound<V: Vars, L: Ledger>(
     alloc: Global,
     f: Func,
@@ -200,6 +214,7 @@ fn eval_bound<V: Vars, L: Ledger>(
     requires { IsScope s.now }
     ensures answer { AnswersAs valued_of (value_kind Kind.Vector (env_of V.bound s.now) f (map arg_meaning args.now)) result }
     ensures own { IfErr result IsOwn }
+    ensures touches { Within (joined_cells (arity_of f) args.now) steps.old steps.new }
 {
     bind(alloc, f, args)?;
     match arity_of(f) {
@@ -211,6 +226,7 @@ fn eval_bound<V: Vars, L: Ledger>(
 
 /// All arguments in a row.
 #[cycle(eval)]
+#[tactic(auto, using(crate::proofs::Touched::costs))]
 fn eval_each<V: Vars, L: Ledger>(
     alloc: Global,
     args: &[Arg],
@@ -220,6 +236,7 @@ fn eval_each<V: Vars, L: Ledger>(
     requires { IsScope s.now }
     ensures answer { AnswersAs valued_of (then_do (each_argument (λ m. m.value (env_of V.bound s.now)) (map arg_meaning args.now)) combined) result }
     ensures own { IfErr result IsOwn }
+    ensures touches { are_literals args.now ≡ true → steps.new ≤ steps.old + length args.now }
 {
     let values = values_of_each(alloc, args, s, steps)?;
     combined(alloc, values.as_slice(), steps)
@@ -227,6 +244,7 @@ fn eval_each<V: Vars, L: Ledger>(
 
 /// The value of an argument, of its own.
 #[cycle(eval)]
+#[tactic(auto, using(crate::proofs::Touched::literals))]
 fn eval_argument<V: Vars, L: Ledger>(
     alloc: Global,
     a: &Arg,
@@ -236,6 +254,8 @@ fn eval_argument<V: Vars, L: Ledger>(
     requires { IsScope s.now }
     ensures answer { AnswersAs valued_of ((arg_meaning a.now).means.value (env_of V.bound s.now)) result }
     ensures own { IfErr result IsOwn }
+    ensures literal { is_literal_argument a.now ≡ true → IfOk result IsOneCell }
+    ensures unread { is_literal_argument a.now ≡ true → steps.new ≡ steps.old }
 {
     let operand = eval_operand(alloc, &a.value, s, steps)?;
     owned(alloc, operand, steps)
@@ -254,6 +274,8 @@ pub fn values_of_each<V: Vars, L: Ledger>(
     ensures answer { AnswersAs (λ v. map valued_of v.items) (each_argument (λ m. m.value (env_of V.bound s.now)) (map arg_meaning args.now)) result }
     ensures count { IfOk result (λ v. length v.items ≡ length args.now) }
     ensures own { IfErr result IsOwn }
+    ensures literals { are_literals args.now ≡ true → IfOk result (λ v. All IsOneCell v.items) }
+    ensures unread { are_literals args.now ≡ true → steps.new ≡ steps.old }
 {
     let mut done = Vec::new(alloc);
     for a in args {

@@ -1,6 +1,7 @@
-use Rattle.std.proofs.Common.{◌≡◌, ◌≤◌, map, drop, length}
+use Rattle.std.proofs.Common.{◌≡◌, ◌≤◌, true, map, drop, length, All}
 use Rattle.expr_eval.specs.Scope.{env_of}
 use Rattle.expr_eval.specs.Slots.{operand_of, slot_of}
+use Rattle.expr_eval.specs.Touches.{are_literals, IsOneCell}
 use Rattle.session_model.proofs.InOrder.{onto}
 use Rattle.session_model.specs.Expression.{names_in, value_tails, each_argument, slots}
 use Rattle.session_model.specs.Meaning.{arg_meaning, tail_meaning}
@@ -18,6 +19,9 @@ invariant-values_of_each-loop-a g l =
     (each_argument (λ m. m.value (env_of g.V.Vars.bound l.s)) (map arg_meaning l.args)
     ≡ onto (map valued_of l.done.items) (each_argument (λ m. m.value (env_of g.V.Vars.bound l.s)) (map arg_meaning (drop l.a-index l.args))))
     × (length l.done.items ≡ l.a-index)
+    × (are_literals l.args ≡ true → are_literals (drop l.a-index l.args) ≡ true)
+    × (are_literals l.args ≡ true → All IsOneCell l.done.items)
+    × (are_literals l.args ≡ true → l.steps ≡ l.initial.steps)
 
 abbrev pub invariant-eval_formals-loop-p : goal.invariant-eval_formals-loop-p
 invariant-eval_formals-loop-p g l =
