@@ -1,4 +1,4 @@
-ghost use Rattle.std.specs.Prelude.{◌≡◌, map};
+ghost use Rattle.std.specs.Prelude.{◌≡◌, map, option_map};
 ghost use Rattle.std.specs.List.{list_all};
 ghost use Rattle.session_model.specs.Binding.{word_in};
 ghost use Rattle.session_model.specs.Meaning.{meaning, arg_meaning, tail_meaning, second_meaning, bracket_meaning, call_joins, call_served};
