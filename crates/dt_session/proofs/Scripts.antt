@@ -1,5 +1,5 @@
 -- A whole script, from the answers of its reading and of its statements.
-use Rattle.std.proofs.Common.{◌≡◌, ◌⊎◌, ℕ, List, [], Option, Some, Result, Ok, Err, OnOk, IfErr, refl, sym, ap, subst, ◌∙◌, inl, inr}
+use Rattle.std.proofs.Common.{◌≡◌, ◌⊎◌, ℕ, List, Option, Some, Result, Ok, Err, OnOk, IfErr, refl, sym, subst, inl, inr}
 use Rattle.dt_base.specs.declared.fault.Fault.{Fault}
 use Rattle.dt_model.specs.State.{State}
 use Rattle.dt_script.specs.Answers.{FailsAs}
