@@ -5,6 +5,9 @@
 --   negative f    the integer that `-` before this form writes, if it is an integer literal
 --   is_literal f  the form is a literal, with `-` before an integer allowed
 --   text_in f     the text of a text literal; NA is none
+--   Joining       what an expression is as the i of a bracket: a table to join with, a list of values to
+--                 join with, one of these behind `!`, or no join
+--   is_join j     it is a join
 use Rattle.std.specs.Prelude.{ℤ, neg_ℤ, negsuc, ◌^◌, ◌-◌, Bool, true, false, cond, List, ℕ, Option, None, Some}
 use Rattle.std.specs.Ordering.{int_eq}
 use Rattle.dt_base.specs.declared.cell.Cell.{Cell}
@@ -56,3 +59,27 @@ text_in _ = None
 abbrev pub name_in : Form → Option (List ℕ)
 name_in (BareName name) = Some name
 name_in _ = None
+
+-- ---- What an expression is as the i of a bracket, whatever its names are bound to
+
+-- A query or a table function gives a table to join with, and a list gives values to join with.
+pub data Joining : Type 0 where
+  NoJoin : Joining
+  TableJoin : Joining
+  ListJoin : Joining
+  AntiJoin : Joining
+
+-- `!` turns a join round; before anything else it is logical
+abbrev pub turned : Joining → Joining
+turned TableJoin = AntiJoin
+turned ListJoin = AntiJoin
+turned _ = NoJoin
+
+-- parentheses let a table through, and hide a list and a `!`
+abbrev pub in_parens : Joining → Joining
+in_parens TableJoin = TableJoin
+in_parens _ = NoJoin
+
+abbrev pub is_join : Joining → Bool
+is_join NoJoin = false
+is_join _ = true

@@ -38,7 +38,7 @@ use Rattle.session_model.specs.Binding.{bound}
 use Rattle.session_model.specs.Calls.{table_call, command_named}
 use Rattle.session_model.specs.Columns.{list_answer, text_columns, vector_answer}
 use Rattle.session_model.specs.Expression.{quiet, kind_in, signed, check_tails, value_tails, check_call, value_call, names_in}
-use Rattle.session_model.specs.Form.{Form, Literal, Negative, NullWord, InfWord, BareName, NotName, Other, literal_cell, negative, text_in}
+use Rattle.session_model.specs.Form.{Form, Literal, Negative, NullWord, InfWord, BareName, NotName, Other, Joining, NoJoin, TableJoin, ListJoin, turned, in_parens, literal_cell, negative, text_in}
 use Rattle.session_model.specs.Meanings.{Answer, Meaning, ArgMeaning, TailMeaning, SecondMeaning, Computes, Assigns, BracketMeaning}
 use Rattle.session_model.specs.Query.{vars_of, chained, bracket_served}
 use Rattle.session_model.specs.Value.{Cells, Null, Given, Scene, gives_value, bound_value}
@@ -64,7 +64,7 @@ vector form served check value =
     record {
       form = form;
       called = no_name;
-      is_join = false;
+      joins = NoJoin;
       served = served;
       check = check;
       value = value;
@@ -88,10 +88,10 @@ not_form (BareName name) = NotName name
 not_form _ = Other
 
 -- `-` or `!` before an expression; `!` before a join is one too
-abbrev pub sign_of : UnOp → Form → Bool → Meaning → Meaning
+abbrev pub sign_of : UnOp → Form → Joining → Meaning → Meaning
 sign_of o form joins arg =
     record (vector form arg.served (λ s. then_do (arg.check s) (sign_type o)) (λ s. then_do (arg.value s) (signed o))) {
-      is_join = joins;
+      joins = joins;
     }
 
 -- ---- What gives columns as the j of a bracket
@@ -148,16 +148,16 @@ call_gives name None args w = call_given name args w
 call_gives name (Some f) args w = kind_gives (kind_of f) name f args w
 
 -- as an i, a list and a table function are joins
-abbrev pub is_table_kind : Kind → Bool
-is_table_kind kind.Table = true
-is_table_kind _ = false
+abbrev pub kind_joins : Kind → Joining
+kind_joins kind.Table = TableJoin
+kind_joins _ = NoJoin
 
-abbrev pub is_table_call : Option Func → Bool
-is_table_call None = false
-is_table_call (Some f) = is_table_kind (kind_of f)
+abbrev pub func_joins : Option Func → Joining
+func_joins None = NoJoin
+func_joins (Some f) = kind_joins (kind_of f)
 
-abbrev pub call_joins : List ℕ → Bool
-call_joins name = if is_list name then true else is_table_call (func_of name)
+abbrev pub call_joins : List ℕ → Joining
+call_joins name = if is_list name then ListJoin else func_joins (func_of name)
 
 abbrev pub call_served : List ℕ → List ArgMeaning → Bool → Bool
 call_served name args inside = not (is_later name) && list_all (λ a. a.means.served inside) args
@@ -167,7 +167,7 @@ call_of name args =
     record {
       form = Other;
       called = no_name;
-      is_join = call_joins name;
+      joins = call_joins name;
       served = call_served name args;
       check = λ s. check_call s name args;
       value = λ s. value_call s name args;
@@ -183,7 +183,7 @@ name_of name =
     record {
       form = BareName name;
       called = name;
-      is_join = false;
+      joins = NoJoin;
       served = λ inside. not (inside && is_later_special name);
       check = λ s. kind_in (name_vector s name);
       value = λ s. quiet (name_vector s name);
@@ -197,7 +197,7 @@ literal_of kind cell =
     record {
       form = Literal cell kind;
       called = no_name;
-      is_join = false;
+      joins = NoJoin;
       served = λ inside. true;
       check = λ s. Ok kind;
       value = λ s. quiet (Ok (one_cell kind cell));
@@ -210,14 +210,14 @@ literal_of kind cell =
 abbrev pub null_word : Meaning
 null_word = record (refused NullWord (codes "NULL")) { gives = λ w. gives_value Null }
 
--- Parentheses hide the form, and let through what is wanted as a statement's value, a head, a table
--- and a join.
+-- Parentheses hide the form, and let through what is wanted as a statement's value, a head, and a table,
+-- also one to join with.
 abbrev pub paren_of : Meaning → Meaning
 paren_of inner =
     record {
       form = Other;
       called = inner.called;
-      is_join = inner.is_join;
+      joins = in_parens inner.joins;
       served = inner.served;
       check = inner.check;
       value = inner.value;
@@ -230,7 +230,7 @@ paren_of inner =
 abbrev pub query_of : Meaning → List BracketMeaning → Meaning
 query_of head brackets =
     record (refused Other no_name) {
-      is_join = true;
+      joins = TableJoin;
       served = λ inside. head.served inside && list_all bracket_served brackets;
       gives = λ w. then_do (head.gives w) (λ g. chained w.state head.called g brackets);
     }
@@ -243,8 +243,8 @@ expr_step Expr-F.Null = null_word
 expr_step Expr-F.Infinite = refused InfWord (codes "Inf")
 expr_step (Expr-F.Name name) = name_of name
 expr_step (Expr-F.Paren inner) = paren_of inner
-expr_step (Expr-F.Minus arg) = sign_of un.Neg (minus_form (negative arg.form)) false arg
-expr_step (Expr-F.Not arg) = sign_of un.Not (not_form arg.form) arg.is_join arg
+expr_step (Expr-F.Minus arg) = sign_of un.Neg (minus_form (negative arg.form)) NoJoin arg
+expr_step (Expr-F.Not arg) = sign_of un.Not (not_form arg.form) (turned arg.joins) arg
 expr_step (Expr-F.Chain first rest) =
     vector Other (λ inside. first.served inside && list_all (λ t. t.means.served inside) rest)
     (λ s. then_do (first.check s) (λ a. check_tails s a rest))

@@ -16,7 +16,7 @@ use Rattle.dt_tree.specs.declared.tree.BinOp.{BinOp}
 use Rattle.vector_model.specs.Functions.{Valued}
 use Rattle.expr_model.specs.Surroundings.{Env}
 use Rattle.session_model.specs.Effect.{Effect}
-use Rattle.session_model.specs.Form.{Form}
+use Rattle.session_model.specs.Form.{Form, Joining}
 use Rattle.session_model.specs.Value.{Given, Scene}
 
 -- what one bracket gives
@@ -32,7 +32,7 @@ pub record Answer : Type 0 where
 -- An expression:
 --   form      what it is as written
 --   called    the name that it has as the head of a bracket, through parentheses; `[` where it has none
---   is_join   as the i of a bracket it is a join, whatever its names are bound to
+--   joins     what it is as the i of a bracket, whatever its names are bound to
 --   served    whether all of its forms are served, where it stands in a bracket or outside
 --   check     its type where a vector is wanted, or its first fault; it looks at no cell
 --   value     its value there with its warnings, or its first fault
@@ -42,7 +42,7 @@ pub record Answer : Type 0 where
 pub record Meaning : Type 0 where
   pub form : Form
   pub called : List ℕ
-  pub is_join : Bool
+  pub joins : Joining
   pub served : Bool → Bool
   pub check : Env → Result ColType Fault
   pub value : Env → Result Valued Fault

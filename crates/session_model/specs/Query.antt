@@ -29,7 +29,7 @@ use Rattle.expr_model.specs.Unbuilt.{unbuilt}
 use Rattle.session_model.specs.Binding.{word_in}
 use Rattle.session_model.specs.Columns.{gives_columns}
 use Rattle.session_model.specs.Expression.{checked_value, quiet}
-use Rattle.session_model.specs.Form.{Form, BareName, NotName}
+use Rattle.session_model.specs.Form.{Form, BareName, NotName, is_join}
 use Rattle.session_model.specs.Meanings.{Outcome, Same, Answer, Meaning, ArgMeaning, SecondMeaning, Computes, Assigns, BracketMeaning}
 use Rattle.session_model.specs.Meanings as gives
 use Rattle.session_model.specs.Value.{Value, Numbered, New, Cells, Null, Given, numbered_table, new_table}
@@ -176,7 +176,7 @@ chained s word g (b ∷ rest) = then_do (bracketed s word g b) (λ h. chained s 
 
 abbrev pub is_served_first : Option Meaning → Bool
 is_served_first None = true
-is_served_first (Some i) = not i.is_join && i.served true
+is_served_first (Some i) = not (is_join i.joins) && i.served true
 
 abbrev pub is_served_second : Option SecondMeaning → Bool
 is_served_second None = true

@@ -1,13 +1,12 @@
 ghost use Rattle.std.specs.Prelude.{◌≡◌, map, option_map};
 ghost use Rattle.std.specs.List.{list_all};
 ghost use Rattle.session_model.specs.Binding.{word_in};
-ghost use Rattle.session_model.specs.Meaning.{meaning, arg_meaning, tail_meaning, second_meaning, bracket_meaning, call_joins, call_served};
+ghost use Rattle.session_model.specs.Meaning.{meaning, arg_meaning, tail_meaning, second_meaning, bracket_meaning, call_served};
 ghost use Rattle.session_model.specs.Query.{is_served_first, is_served_second, is_served_argument, bracket_served};
 
+use crate::joins::is_join;
 use dt_tree::{Arg, Bracket, Expr, Second, Tail};
-use func_table::{
-    Kind, func_named, is_bracket_argument, is_later, is_later_special, is_list, kind_of,
-};
+use func_table::{is_bracket_argument, is_later, is_later_special};
 
 /// The name that is written before an argument; the empty text where none is.
 pub fn written_name(arg: &Arg) -> &str
@@ -16,35 +15,6 @@ pub fn written_name(arg: &Arg) -> &str
     match &arg.name {
         Some(name) => name.as_str(),
         None => "",
-    }
-}
-
-/// Whether a call of this name as the i of a bracket is a join: a list, or a table function.
-fn is_joining_call(name: &str) -> bool
-    ensures { result ≡ call_joins name.now }
-{
-    if is_list(name) {
-        return true;
-    }
-    match func_named(name) {
-        None => false,
-        Some(f) => kind_of(f) == Kind::Table,
-    }
-}
-
-/// Whether the expression as the i of a bracket is a join, whatever its names are bound to.
-fn is_join(e: &Expr) -> bool
-    ensures { result ≡ (meaning e.now).is_join }
-{
-    match e {
-        Expr::Paren { inner } => is_join(inner.get()),
-        Expr::Not { arg } => is_join(arg.get()),
-        Expr::Call { name, args: _ } => is_joining_call(name.as_str()),
-        Expr::Query {
-            head: _,
-            brackets: _,
-        } => true,
-        _ => false,
     }
 }
 

@@ -17,6 +17,7 @@ mod fail;
 mod files;
 mod forms;
 mod given;
+mod joins;
 mod values;
 mod vars;
 mod vectors;

@@ -2,7 +2,7 @@
 use crate::tests::Row;
 
 /// Of the same table and vector.
-pub const LATER: [Row; 59] = [
+pub const LATER: [Row; 63] = [
     (
         "D[, .N, by = b]",
         "",
@@ -134,6 +134,10 @@ pub const LATER: [Row; 59] = [
         "Error E19 at line 3: bad argument 'unbuilt'\n",
     ),
     ("D[D]", "", "Error E19 at line 3: bad argument 'unbuilt'\n"),
+    ("D[(.(1L))]", "", "Error E04 at line 3: wrong type in .\n"),
+    ("D[!(list(1L))]", "", "Error E04 at line 3: wrong type in list\n"),
+    ("D[(!D[1L])]", "", "Error E04 at line 3: wrong type in [\n"),
+    ("D[!(!D[1L])]", "", "Error E04 at line 3: wrong type in [\n"),
     ("D[!D]", "", "Error E19 at line 3: bad argument 'unbuilt'\n"),
     (
         "D[, cumsum(a)]",
