@@ -1,5 +1,5 @@
 -- The steps of the machine, frame by frame, and the view of what the code makes of a frame.
-use Rattle.std.proofs.Common.{◌≡◌, ◌≢◌, ℕ, Bool, true, false, cond, List, [], ◌∷◌, ◌++◌, Option, Some, None, option_map, refl, sym, ◌∙◌, ap, subst}
+use Rattle.std.proofs.Common.{◌≡◌, ◌≢◌, ℕ, Bool, true, false, cond, List, [], ◌∷◌, ◌++◌, Option, Some, None, option_map, option_and_then, refl, sym, ◌∙◌, ap, subst}
 use Rattle.dt_tree.specs.declared.tree.Expr.{Expr, out-Expr, roll-Expr, roll-out-Expr}
 use Rattle.dt_tree.specs.declared.tree.Expr.TheOpen.{Expr-F}
 use Rattle.dt_tree.specs.declared.tree.Expr.TheOpen as layer
@@ -14,7 +14,7 @@ use Rattle.run_model.specs.Grammar.{Filled, Nothing, UpToI, UpToJ, UpToBy, with_
 use Rattle.run_model.specs.TreeView.{tree_of, bracket_of, first_of, second_of, args_of, stmt_of, stmts_of}
 use Rattle.dt_grammar.specs.Machine.{Frame, Front, Left, InParen, InCall, InItem, InNamed, InAssign, InStmt, Want, Have, head_of, shut_none, shut, break_none, assign, name_top, arrow_top, opens, naming}
 use Rattle.dt_grammar.proofs.Trees.{tree_of-Lit, tree_of-Null, tree_of-Infinite, tree_of-Name, tree_of-Paren, tree_of-Minus, tree_of-Not, tree_of-Chain, tree_of-Call, tree_of-Query, tree_of-Formula, item_of_second-Value, item_of_second-Assign, item_of_second-AssignAll, bracket_of-roll, brackets_of-push}
-use Rattle.dt_script.specs.Steps.{bracket_tree, placed, empty_call, in_shut, empty_line, in_assign, in_naming, in_arrow}
+use Rattle.dt_script.specs.Steps.{bracket_tree, placed, bare_name, empty_call, in_shut, empty_line, in_assign, in_naming, in_arrow}
 
 -- brackets
 pub with_bracket_is : (bs : Brackets) (f : Filled) → with_bracket bs f ≡ (let b = bracket_tree f in MoreBrackets bs b.first b.second b.third b.args)
@@ -47,7 +47,7 @@ pub ruleset items = (first_of-placed)
 
 pub ruleset seconds = (item_of_second-Value, item_of_second-Assign, item_of_second-AssignAll)
 
--- what is no call, no query and no name in the code is none in the view
+-- what is no call and no query in the code is none in the view
 as_j_other_layer : (l : Expr-F Expr Second Arg Bracket Tail) → ((x : Word) (args : List Arg) → roll-Expr l ≢ code.Call x args) → as_j (tree_of (roll-Expr l)) ≡ Given (tree_of (roll-Expr l))
 as_j_other_layer (layer.Lit c k) h = subst (λ z. as_j (z) ≡ Given (z)) (sym (ap tree_of (code.rolls-Lit c k) ∙ tree_of-Lit c k)) refl
 as_j_other_layer layer.Null h = subst (λ z. as_j (z) ≡ Given (z)) (sym (ap tree_of (code.rolls-Null) ∙ tree_of-Null)) refl
@@ -80,37 +80,14 @@ head_of_other_layer (layer.Formula xs ys) h = subst (λ z. head_of (z) ≡ recor
 pub head_of_other : (t : Expr) → ((u : Expr) (bs : List Bracket) → t ≢ code.Query u bs) → head_of (tree_of t) ≡ record { tree = tree_of t; brackets = NoBrackets }
 head_of_other t h = subst (λ s. ((u : Expr) (bs : List Bracket) → s ≢ code.Query u bs) → head_of (tree_of s) ≡ record { tree = tree_of s; brackets = NoBrackets }) (roll-out-Expr t) (head_of_other_layer (out-Expr t)) h
 
-opens_other_layer : (l : Expr-F Expr Second Arg Bracket Tail) → ((x : Word) → roll-Expr l ≢ code.Name x) → ((frames : List Frame) → opens frames (tree_of (roll-Expr l)) ≡ None)
-opens_other_layer (layer.Lit c k) h = subst (λ z. ((frames : List Frame) → opens frames (z) ≡ None)) (sym (ap tree_of (code.rolls-Lit c k) ∙ tree_of-Lit c k)) (λ frames. refl)
-opens_other_layer layer.Null h = subst (λ z. ((frames : List Frame) → opens frames (z) ≡ None)) (sym (ap tree_of (code.rolls-Null) ∙ tree_of-Null)) (λ frames. refl)
-opens_other_layer layer.Infinite h = subst (λ z. ((frames : List Frame) → opens frames (z) ≡ None)) (sym (ap tree_of (code.rolls-Infinite) ∙ tree_of-Infinite)) (λ frames. refl)
-opens_other_layer (layer.Name x) h = absurd (h x (code.rolls-Name x))
-opens_other_layer (layer.Paren t) h = subst (λ z. ((frames : List Frame) → opens frames (z) ≡ None)) (sym (ap tree_of (code.rolls-Paren t) ∙ tree_of-Paren t)) (λ frames. refl)
-opens_other_layer (layer.Minus t) h = subst (λ z. ((frames : List Frame) → opens frames (z) ≡ None)) (sym (ap tree_of (code.rolls-Minus t) ∙ tree_of-Minus t)) (λ frames. refl)
-opens_other_layer (layer.Not t) h = subst (λ z. ((frames : List Frame) → opens frames (z) ≡ None)) (sym (ap tree_of (code.rolls-Not t) ∙ tree_of-Not t)) (λ frames. refl)
-opens_other_layer (layer.Chain t rest) h = subst (λ z. ((frames : List Frame) → opens frames (z) ≡ None)) (sym (ap tree_of (code.rolls-Chain t rest) ∙ tree_of-Chain t rest)) (λ frames. refl)
-opens_other_layer (layer.Call x args) h = subst (λ z. ((frames : List Frame) → opens frames (z) ≡ None)) (sym (ap tree_of (code.rolls-Call x args) ∙ tree_of-Call x args)) (λ frames. refl)
-opens_other_layer (layer.Query t bs) h = subst (λ z. ((frames : List Frame) → opens frames (z) ≡ None)) (sym (ap tree_of (code.rolls-Query t bs) ∙ tree_of-Query t bs)) (λ frames. refl)
-opens_other_layer (layer.Formula xs ys) h = subst (λ z. ((frames : List Frame) → opens frames (z) ≡ None)) (sym (ap tree_of (code.rolls-Formula xs ys) ∙ tree_of-Formula xs ys)) (λ frames. refl)
+-- what a bare name begins
+pub opens-name : (frames : List Frame) (t : Tree) → opens frames t ≡ option_map (λ x. Want (InCall x NoArgs None ∷ frames)) (bare_name t)
+opens-name frames (Var x) = refl
+opens-name frames t = refl
 
-pub opens_other : (t : Expr) → ((x : Word) → t ≢ code.Name x) → ((frames : List Frame) → opens frames (tree_of t) ≡ None)
-opens_other t h = subst (λ s. ((x : Word) → s ≢ code.Name x) → ((frames : List Frame) → opens frames (tree_of s) ≡ None)) (roll-out-Expr t) (opens_other_layer (out-Expr t)) h
-
-naming_other_layer : (l : Expr-F Expr Second Arg Bracket Tail) → ((x : Word) → roll-Expr l ≢ code.Name x) → ((frames : List Frame) → naming frames (tree_of (roll-Expr l)) ≡ None)
-naming_other_layer (layer.Lit c k) h = subst (λ z. ((frames : List Frame) → naming frames (z) ≡ None)) (sym (ap tree_of (code.rolls-Lit c k) ∙ tree_of-Lit c k)) (λ frames. refl)
-naming_other_layer layer.Null h = subst (λ z. ((frames : List Frame) → naming frames (z) ≡ None)) (sym (ap tree_of (code.rolls-Null) ∙ tree_of-Null)) (λ frames. refl)
-naming_other_layer layer.Infinite h = subst (λ z. ((frames : List Frame) → naming frames (z) ≡ None)) (sym (ap tree_of (code.rolls-Infinite) ∙ tree_of-Infinite)) (λ frames. refl)
-naming_other_layer (layer.Name x) h = absurd (h x (code.rolls-Name x))
-naming_other_layer (layer.Paren t) h = subst (λ z. ((frames : List Frame) → naming frames (z) ≡ None)) (sym (ap tree_of (code.rolls-Paren t) ∙ tree_of-Paren t)) (λ frames. refl)
-naming_other_layer (layer.Minus t) h = subst (λ z. ((frames : List Frame) → naming frames (z) ≡ None)) (sym (ap tree_of (code.rolls-Minus t) ∙ tree_of-Minus t)) (λ frames. refl)
-naming_other_layer (layer.Not t) h = subst (λ z. ((frames : List Frame) → naming frames (z) ≡ None)) (sym (ap tree_of (code.rolls-Not t) ∙ tree_of-Not t)) (λ frames. refl)
-naming_other_layer (layer.Chain t rest) h = subst (λ z. ((frames : List Frame) → naming frames (z) ≡ None)) (sym (ap tree_of (code.rolls-Chain t rest) ∙ tree_of-Chain t rest)) (λ frames. refl)
-naming_other_layer (layer.Call x args) h = subst (λ z. ((frames : List Frame) → naming frames (z) ≡ None)) (sym (ap tree_of (code.rolls-Call x args) ∙ tree_of-Call x args)) (λ frames. refl)
-naming_other_layer (layer.Query t bs) h = subst (λ z. ((frames : List Frame) → naming frames (z) ≡ None)) (sym (ap tree_of (code.rolls-Query t bs) ∙ tree_of-Query t bs)) (λ frames. refl)
-naming_other_layer (layer.Formula xs ys) h = subst (λ z. ((frames : List Frame) → naming frames (z) ≡ None)) (sym (ap tree_of (code.rolls-Formula xs ys) ∙ tree_of-Formula xs ys)) (λ frames. refl)
-
-pub naming_other : (t : Expr) → ((x : Word) → t ≢ code.Name x) → ((frames : List Frame) → naming frames (tree_of t) ≡ None)
-naming_other t h = subst (λ s. ((x : Word) → s ≢ code.Name x) → ((frames : List Frame) → naming frames (tree_of s) ≡ None)) (roll-out-Expr t) (naming_other_layer (out-Expr t)) h
+pub naming-name : (frames : List Frame) (t : Tree) → naming frames t ≡ option_and_then (λ x. name_top frames x) (bare_name t)
+naming-name frames (Var x) = refl
+naming-name frames t = refl
 
 abbrev is_var : Tree → Bool
 is_var (Var x) = true
@@ -120,21 +97,11 @@ arrow_none : (frames : List Frame) (t : Tree) → is_var t ≡ false → arrow_t
 arrow_none (InStmt ss n None ∷ rest) (Var x) e = cc
 arrow_none _ _ e = refl
 
-arrow_other_layer : (l : Expr-F Expr Second Arg Bracket Tail) → ((x : Word) → roll-Expr l ≢ code.Name x) → ((frames : List Frame) → arrow_top frames (tree_of (roll-Expr l)) ≡ None)
-arrow_other_layer (layer.Lit c k) h = subst (λ z. ((frames : List Frame) → arrow_top frames (z) ≡ None)) (sym (ap tree_of (code.rolls-Lit c k) ∙ tree_of-Lit c k)) (λ frames. arrow_none frames _ refl)
-arrow_other_layer layer.Null h = subst (λ z. ((frames : List Frame) → arrow_top frames (z) ≡ None)) (sym (ap tree_of (code.rolls-Null) ∙ tree_of-Null)) (λ frames. arrow_none frames _ refl)
-arrow_other_layer layer.Infinite h = subst (λ z. ((frames : List Frame) → arrow_top frames (z) ≡ None)) (sym (ap tree_of (code.rolls-Infinite) ∙ tree_of-Infinite)) (λ frames. arrow_none frames _ refl)
-arrow_other_layer (layer.Name x) h = absurd (h x (code.rolls-Name x))
-arrow_other_layer (layer.Paren t) h = subst (λ z. ((frames : List Frame) → arrow_top frames (z) ≡ None)) (sym (ap tree_of (code.rolls-Paren t) ∙ tree_of-Paren t)) (λ frames. arrow_none frames _ refl)
-arrow_other_layer (layer.Minus t) h = subst (λ z. ((frames : List Frame) → arrow_top frames (z) ≡ None)) (sym (ap tree_of (code.rolls-Minus t) ∙ tree_of-Minus t)) (λ frames. arrow_none frames _ refl)
-arrow_other_layer (layer.Not t) h = subst (λ z. ((frames : List Frame) → arrow_top frames (z) ≡ None)) (sym (ap tree_of (code.rolls-Not t) ∙ tree_of-Not t)) (λ frames. arrow_none frames _ refl)
-arrow_other_layer (layer.Chain t rest) h = subst (λ z. ((frames : List Frame) → arrow_top frames (z) ≡ None)) (sym (ap tree_of (code.rolls-Chain t rest) ∙ tree_of-Chain t rest)) (λ frames. arrow_none frames _ refl)
-arrow_other_layer (layer.Call x args) h = subst (λ z. ((frames : List Frame) → arrow_top frames (z) ≡ None)) (sym (ap tree_of (code.rolls-Call x args) ∙ tree_of-Call x args)) (λ frames. arrow_none frames _ refl)
-arrow_other_layer (layer.Query t bs) h = subst (λ z. ((frames : List Frame) → arrow_top frames (z) ≡ None)) (sym (ap tree_of (code.rolls-Query t bs) ∙ tree_of-Query t bs)) (λ frames. arrow_none frames _ refl)
-arrow_other_layer (layer.Formula xs ys) h = subst (λ z. ((frames : List Frame) → arrow_top frames (z) ≡ None)) (sym (ap tree_of (code.rolls-Formula xs ys) ∙ tree_of-Formula xs ys)) (λ frames. arrow_none frames _ refl)
+pub arrow-name : (frames : List Frame) (t : Tree) → arrow_top frames t ≡ option_and_then (λ x. arrow_top frames (Var x)) (bare_name t)
+arrow-name frames (Var x) = refl
+arrow-name frames t = arrow_none frames t refl
 
-pub arrow_other : (t : Expr) → ((x : Word) → t ≢ code.Name x) → ((frames : List Frame) → arrow_top frames (tree_of t) ≡ None)
-arrow_other t h = subst (λ s. ((x : Word) → s ≢ code.Name x) → ((frames : List Frame) → arrow_top frames (tree_of s) ≡ None)) (roll-out-Expr t) (arrow_other_layer (out-Expr t)) h
+pub ruleset bare_names = (opens-name, naming-name, arrow-name)
 
 -- frames
 pub shut_none-frame : (f : Frame) (rest : List Frame) → shut_none (f ∷ rest) ≡ option_map (λ t. Have rest t) (empty_call f)

@@ -2,11 +2,12 @@ ghost use Rattle.std.specs.Prelude.{◌≡◌, ℕ, true, IfOk, Some, option_map
 ghost use Rattle.run_model.specs.Grammar as grammar;
 ghost use Rattle.run_model.specs.GrammarTrees.{MoreArgs};
 ghost use Rattle.dt_grammar.specs.Machine as model;
-ghost use Rattle.run_model.specs.TreeView.{tree_of, args_of, bracket_of, item_of_second, second_of};
+ghost use Rattle.run_model.specs.TreeView.{tree_of, args_of, bracket_of, brackets_of, item_of_second, second_of};
 ghost use Rattle.dt_script.specs.Frames.{head_tree, filled_of, frame_of, frames_of, state_of};
 ghost use Rattle.dt_script.specs.Steps.{bracket_tree, placed, came_of};
 
 use crate::frames::{Filled, Frame, Head, State};
+use crate::stack::enter;
 use dt_base::Text;
 use dt_tree::{Arg, Bracket, Expr, Second};
 use sqlite_items::{Boxed, Items};
@@ -87,17 +88,35 @@ pub fn bracket(alloc: Global, filled: Filled) -> Bracket
     }
 }
 
+/// One more bracket.
+#[tactic(auto, using(crate::proofs::StepViews::queries))]
+fn with_bracket(
+    alloc: Global,
+    mut brackets: Items<Bracket>,
+    filled: Filled,
+) -> Result<Items<Bracket>, AllocError>
+    ensures { IfOk result (λ all. brackets_of all ≡ grammar.with_bracket (brackets_of brackets) (filled_of filled)) }
+{
+    brackets.push(bracket(alloc, filled))?;
+    Ok(brackets)
+}
+
 /// The query with one more bracket.
-#[tactic(auto, using(dt_grammar::proofs::Trees::trees, crate::proofs::StepViews::queries))]
+#[tactic(auto, using(dt_grammar::proofs::Trees::trees))]
 pub fn query(alloc: Global, head: Head, filled: Filled) -> Result<Expr, AllocError>
     ensures { IfOk result (λ t. tree_of t ≡ model.query (head_tree head) (filled_of filled)) }
 {
-    let Head { tree, mut brackets } = head;
-    brackets.push(bracket(alloc, filled))?;
-    Ok(Expr::Query {
-        head: Boxed::new(alloc, tree)?,
-        brackets,
-    })
+    let Head { tree, brackets } = head;
+    match with_bracket(alloc, brackets, filled) {
+        Ok(brackets) => Ok(Expr::Query {
+            head: Boxed::new(alloc, tree)?,
+            brackets,
+        }),
+        Err(error) => {
+            drop(tree);
+            Err(error)
+        }
+    }
 }
 
 /// An expression as j: the call of `:=` is an assignment there.
@@ -149,12 +168,15 @@ pub fn with_item(alloc: Global, filled: Filled, item: Option<Expr>) -> Filled
             second,
             third,
             args,
-        } => Filled::UpToBy {
-            first,
-            second,
-            third,
-            args,
-        },
+        } => {
+            drop(item);
+            Filled::UpToBy {
+                first,
+                second,
+                third,
+                args,
+            }
+        }
     }
 }
 
@@ -174,12 +196,37 @@ pub fn with_name(
         third,
         args,
     } = bracket(alloc, filled);
-    Ok(Filled::UpToBy {
-        first,
-        second,
-        third,
-        args: with_arg(args, Some(name), value)?,
-    })
+    match with_arg(args, Some(name), value) {
+        Ok(args) => Ok(Filled::UpToBy {
+            first,
+            second,
+            third,
+            args,
+        }),
+        Err(error) => {
+            drop((first, second, third));
+            Err(error)
+        }
+    }
+}
+
+/// An item with a name that ends with this expression.
+fn named_item(
+    alloc: Global,
+    head: Head,
+    filled: Filled,
+    name: Text,
+    operand: Expr,
+) -> Result<Option<(Head, Filled)>, AllocError>
+    ensures { IfOk result (λ came. option_map came_of came ≡ Some (head_tree head, grammar.with_name (filled_of filled) name (tree_of operand))) }
+{
+    match with_name(alloc, filled, name, operand) {
+        Ok(filled) => Ok(Some((head, filled))),
+        Err(error) => {
+            drop(head);
+            Err(error)
+        }
+    }
 }
 
 /// An item that ends with this expression: what stands before its bracket, and what the items fill
@@ -194,10 +241,7 @@ pub fn item(
 {
     match frame {
         Frame::InItem { head, filled } => Ok(Some((head, with_item(alloc, filled, Some(operand))))),
-        Frame::InNamed { head, filled, name } => Ok(Some((
-            head,
-            with_name(alloc, filled, name, operand)?,
-        ))),
+        Frame::InNamed { head, filled, name } => named_item(alloc, head, filled, name, operand),
         Frame::InAssign { head, first, left } => Ok(Some((
             head,
             Filled::UpToJ {
@@ -208,7 +252,10 @@ pub fn item(
                 }),
             },
         ))),
-        _ => Ok(None),
+        other => {
+            drop((other, operand));
+            Ok(None)
+        }
     }
 }
 
@@ -223,17 +270,20 @@ pub fn takes_unnamed(filled: &Filled) -> bool
 }
 
 /// The next item of a bracket.
-#[tactic(auto, using(crate::proofs::FrameViews::frames))]
-pub fn next_item(head: Head, filled: Filled, mut frames: Vec<Frame>) -> Result<State, AllocError>
-    ensures { IfOk result (λ next. state_of next ≡ model.next_item (head_tree head) (filled_of filled) (frames_of frames.items)) }
+pub fn next_item(
+    head: Head,
+    filled: Filled,
+    frames: Vec<Frame>,
+) -> Result<Option<State>, AllocError>
+    ensures { IfOk result (λ next. option_map state_of next ≡ Some (model.next_item (head_tree head) (filled_of filled) (frames_of frames.items))) }
 {
-    if !takes_unnamed(&filled) {
-        return Ok(State::NeedName {
+    if takes_unnamed(&filled) {
+        enter(Frame::InItem { head, filled }, frames)
+    } else {
+        Ok(Some(State::NeedName {
             head,
             filled,
             frames,
-        });
+        }))
     }
-    frames.push(Frame::InItem { head, filled })?;
-    Ok(State::Want { frames })
 }

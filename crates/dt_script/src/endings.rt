@@ -1,5 +1,6 @@
-ghost use Rattle.std.specs.Prelude.{◌≡◌, ◌∷◌, IfOk, option_map};
+ghost use Rattle.std.specs.Prelude.{◌≡◌, ◌∷◌, IfOk, Some, None, option_map};
 ghost use Rattle.run_model.specs.TreeView.{tree_of, stmts_of};
+ghost use Rattle.run_model.specs.GrammarTrees.{Paren, Call};
 ghost use Rattle.dt_grammar.specs.Machine as model;
 ghost use Rattle.dt_script.specs.Frames.{frame_of, frames_of, state_of, closed_of, call_of};
 ghost use Rattle.dt_script.specs.Steps.{came_of, empty_call, in_shut, empty_line};
@@ -7,6 +8,7 @@ ghost use Rattle.dt_script.specs.Ends.{call_view, stmt_view, call_parts, stmt_pa
 
 use crate::brackets::{item, next_item, query, with_arg, with_item};
 use crate::frames::{Filled, Frame, Head, State};
+use crate::stack::enter;
 use dt_base::Text;
 use dt_tree::{Arg, Expr, Stmt};
 use sqlite_items::{Boxed, Items};
@@ -19,7 +21,10 @@ fn call_parts(frame: Frame) -> Option<(Text, Items<Arg>, Option<Text>)>
 {
     match frame {
         Frame::InCall { name, args, target } => Some((name, args, target)),
-        _ => None,
+        other => {
+            drop(other);
+            None
+        }
     }
 }
 
@@ -29,7 +34,10 @@ fn stmt_parts(frame: Frame) -> Option<(Items<Stmt>, u32, Option<Text>)>
 {
     match frame {
         Frame::InStmt { done, line, target } => Some((done, line, target)),
-        _ => None,
+        other => {
+            drop(other);
+            None
+        }
     }
 }
 
@@ -40,7 +48,6 @@ fn empty_item(alloc: Global, frame: Frame) -> Option<(Head, Filled)>
     match frame {
         Frame::InItem { head, filled } => Some((head, with_item(alloc, filled, None))),
         other => {
-            // By a call, so that the proof has no case for each form that is dropped.
             drop(other);
             None
         }
@@ -123,8 +130,7 @@ pub fn comma_none(alloc: Global, mut frames: Vec<Frame>) -> Result<Option<State>
     let Some((head, filled)) = empty_item(alloc, frame) else {
         return Ok(None);
     };
-    let next = next_item(head, filled, frames)?;
-    Ok(Some(next))
+    next_item(head, filled, frames)
 }
 
 /// An empty line, where the frame is a statement and nothing has come in it.
@@ -156,8 +162,7 @@ pub fn break_none(next: u32, mut frames: Vec<Frame>) -> Result<Option<State>, Al
     let Some(frame) = empty_line(next, frame) else {
         return Ok(None);
     };
-    frames.push(frame)?;
-    Ok(Some(State::Want { frames }))
+    enter(frame, frames)
 }
 
 /// The call that the argument ends.
@@ -166,25 +171,43 @@ fn last_arg(frame: Frame, operand: Expr) -> Result<Option<(Text, Items<Arg>)>, A
     ensures { IfOk result (λ call. option_map call_of call ≡ last_arg (frame_of frame) (tree_of operand)) }
 {
     let Some((name, args, target)) = call_parts(frame) else {
+        drop(operand);
         return Ok(None);
     };
     let args = with_arg(args, target, operand)?;
     Ok(Some((name, args)))
 }
 
-/// The expression that `)` ends.
-#[tactic(auto, using(dt_grammar::proofs::Trees::trees, crate::proofs::EndViews::shuts))]
-fn in_shut(alloc: Global, frame: Frame, operand: Expr) -> Result<Option<Expr>, AllocError>
-    ensures { IfOk result (λ t. option_map tree_of t ≡ in_shut (frame_of frame) (tree_of operand)) }
+/// An expression in a parenthesis.
+#[tactic(auto, using(dt_grammar::proofs::Trees::trees))]
+fn paren(alloc: Global, operand: Expr) -> Result<Option<Expr>, AllocError>
+    ensures { IfOk result (λ t. option_map tree_of t ≡ Some (Paren (tree_of operand))) }
 {
-    if is_paren(&frame) {
-        let inner = Boxed::new(alloc, operand)?;
-        return Ok(Some(Expr::Paren { inner }));
-    }
+    let inner = Boxed::new(alloc, operand)?;
+    Ok(Some(Expr::Paren { inner }))
+}
+
+/// The call that the argument ends, as an expression.
+#[tactic(auto, using(dt_grammar::proofs::Trees::trees))]
+fn whole_call(frame: Frame, operand: Expr) -> Result<Option<Expr>, AllocError>
+    ensures { IfOk result (λ t. option_map tree_of t ≡ option_map (λ call. Call call.0 call.1) (last_arg (frame_of frame) (tree_of operand))) }
+{
     let Some((name, args)) = last_arg(frame, operand)? else {
         return Ok(None);
     };
     Ok(Some(Expr::Call { name, args }))
+}
+
+/// The expression that `)` ends.
+#[tactic(auto, using(crate::proofs::EndViews::shuts))]
+fn in_shut(alloc: Global, frame: Frame, operand: Expr) -> Result<Option<Expr>, AllocError>
+    ensures { IfOk result (λ t. option_map tree_of t ≡ in_shut (frame_of frame) (tree_of operand)) }
+{
+    if is_paren(&frame) {
+        drop(frame);
+        return paren(alloc, operand);
+    }
+    whole_call(frame, operand)
 }
 
 /// `)` behind an expression that has come in these frames.
@@ -197,6 +220,7 @@ pub fn shut(
     ensures { IfOk result (λ next. option_map state_of next ≡ model.shut (closed_of frames.items operand)) }
 {
     let Some(frame) = frames.pop() else {
+        drop(operand);
         return Ok(None);
     };
     let Some(operand) = in_shut(alloc, frame, operand)? else {
@@ -215,6 +239,7 @@ pub fn shut_square(
     ensures { IfOk result (λ next. option_map state_of next ≡ model.shut_square (closed_of frames.items operand)) }
 {
     let Some(frame) = frames.pop() else {
+        drop(operand);
         return Ok(None);
     };
     let Some((head, filled)) = item(alloc, frame, operand)? else {
@@ -237,29 +262,23 @@ fn comma_item(
     let Some((head, filled)) = item(alloc, frame, operand)? else {
         return Ok(None);
     };
-    let next = next_item(head, filled, frames)?;
-    Ok(Some(next))
+    next_item(head, filled, frames)
 }
 
 /// `,` behind an argument of a call.
-#[tactic(auto, using(crate::proofs::FrameViews::frames, crate::proofs::EndViews::calls))]
-fn comma_arg(
-    frame: Frame,
-    mut frames: Vec<Frame>,
-    operand: Expr,
-) -> Result<Option<State>, AllocError>
+fn comma_arg(frame: Frame, frames: Vec<Frame>, operand: Expr) -> Result<Option<State>, AllocError>
     ensures { IfOk result (λ next. option_map state_of next
         ≡ option_map (λ call. model.Want (model.InCall call.0 call.1 None ∷ frames_of frames.items)) (last_arg (frame_of frame) (tree_of operand))) }
 {
     let Some((name, args)) = last_arg(frame, operand)? else {
         return Ok(None);
     };
-    frames.push(Frame::InCall {
+    let next = Frame::InCall {
         name,
         args,
         target: None,
-    })?;
-    Ok(Some(State::Want { frames }))
+    };
+    enter(next, frames)
 }
 
 /// `,` behind an expression that has come in these frames.
@@ -272,6 +291,7 @@ pub fn comma(
     ensures { IfOk result (λ next. option_map state_of next ≡ model.comma (closed_of frames.items operand)) }
 {
     let Some(frame) = frames.pop() else {
+        drop(operand);
         return Ok(None);
     };
     if is_call(&frame) {
@@ -286,6 +306,7 @@ fn with_stmt(frame: Frame, operand: Expr) -> Result<Option<Items<Stmt>>, AllocEr
     ensures { IfOk result (λ done. option_map stmts_of done ≡ with_stmt (frame_of frame) (tree_of operand)) }
 {
     let Some((mut done, line, target)) = stmt_parts(frame) else {
+        drop(operand);
         return Ok(None);
     };
     done.push(Stmt {
@@ -307,17 +328,18 @@ pub fn break_line(
     ensures { IfOk result (λ state. option_map state_of state ≡ model.break next (closed_of frames.items operand)) }
 {
     let Some(frame) = frames.pop() else {
+        drop(operand);
         return Ok(None);
     };
     let Some(done) = with_stmt(frame, operand)? else {
         return Ok(None);
     };
-    frames.push(Frame::InStmt {
+    let begun = Frame::InStmt {
         done,
         line: next,
         target: None,
-    })?;
-    Ok(Some(State::Want { frames }))
+    };
+    enter(begun, frames)
 }
 
 /// The statements, where the script may end behind this expression.
@@ -326,6 +348,7 @@ pub fn last_stmt(mut frames: Vec<Frame>, operand: Expr) -> Result<Option<Items<S
     ensures { IfOk result (λ done. option_map stmts_of done ≡ model.last_stmt (closed_of frames.items operand)) }
 {
     let Some(frame) = frames.pop() else {
+        drop(operand);
         return Ok(None);
     };
     with_stmt(frame, operand)

@@ -10,6 +10,7 @@ use crate::frames::{Filled, Frame, State, Symbol};
 use crate::levels::level;
 use crate::naming::{arrow, assign, naming, opens, tilde};
 use crate::operators::{close, infix_op};
+use crate::stack::enter;
 use dt_tree::{BinOp, Expr};
 use std::alloc::{AllocError, Global};
 
@@ -28,21 +29,20 @@ fn operator(
 }
 
 /// `[` behind an expression: it binds most tightly, and ends nothing.
-#[tactic(auto, using(crate::proofs::FrameViews::frames))]
 fn begin_bracket(
     alloc: Global,
-    mut frames: Vec<Frame>,
+    frames: Vec<Frame>,
     operand: Expr,
 ) -> Result<Option<State>, AllocError>
     ensures { IfOk result (λ next. option_map state_of next
         ≡ Some (model.Want (model.InItem (model.head_of (tree_of operand)) grammar.Nothing ∷ frames_of frames.items))) }
 {
     let head = head_of(alloc, operand);
-    frames.push(Frame::InItem {
+    let begun = Frame::InItem {
         head,
         filled: Filled::Nothing,
-    })?;
-    Ok(Some(State::Want { frames }))
+    };
+    enter(begun, frames)
 }
 
 /// `)` behind an expression: it ends all operators.
@@ -110,13 +110,6 @@ fn begin_formula(
     tilde(alloc, frames, operand)
 }
 
-/// A token with which no expression goes on, and none ends.
-fn refuse(_frames: Vec<Frame>, _operand: Expr) -> Option<State>
-    ensures { result ≡ None }
-{
-    None
-}
-
 /// A token behind an expression.
 pub fn have(
     alloc: Global,
@@ -139,10 +132,10 @@ pub fn have(
         Symbol::Break(next) => end_line(alloc, next, frames, operand),
         Symbol::Assign => begin_assign(alloc, frames, operand),
         Symbol::Tilde => begin_formula(alloc, frames, operand),
-        Symbol::Name(_) => Ok(refuse(frames, operand)),
-        Symbol::Literal { .. } => Ok(refuse(frames, operand)),
-        Symbol::Null | Symbol::Infinite | Symbol::Bang | Symbol::Semicolon => {
-            Ok(refuse(frames, operand))
+        other => {
+            // No expression goes on with it, and none ends.
+            drop((other, frames, operand));
+            Ok(None)
         }
     }
 }

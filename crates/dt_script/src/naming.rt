@@ -1,33 +1,44 @@
 ghost use Rattle.std.specs.Prelude.{◌≡◌, IfOk, option_map, option_copied, map, ◌∷◌, []};
-ghost use Rattle.run_model.specs.TreeView.{tree_of, tail_of};
+ghost use Rattle.run_model.specs.TreeView.{tree_of, tail_of, args_of};
 ghost use Rattle.dt_grammar.specs.Machine as model;
-ghost use Rattle.dt_script.specs.Frames.{frame_of, frames_of, state_of, closed_of};
+ghost use Rattle.dt_script.specs.Frames.{head_tree, filled_of, frame_of, frames_of, state_of, closed_of};
 ghost use Rattle.dt_script.specs.Steps.{in_assign, in_naming, in_arrow, bare_name, added_name, names_behind};
 
-use crate::frames::{Filled, Formula, Frame, State};
+use crate::frames::{Filled, Formula, Frame, Head, State};
+use crate::stack::enter;
 use dt_base::{Op, Text};
-use dt_tree::{BinOp, Expr, Tail};
+use dt_tree::{Arg, BinOp, Expr, Tail};
 use sqlite_items::Items;
 use std::alloc::{AllocError, Global};
 
+/// The name that an expression is, where it is a bare name.
+#[tactic(auto, using(dt_grammar::proofs::Trees::trees))]
+fn into_name(operand: Expr) -> Option<Text>
+    ensures { result ≡ bare_name (tree_of operand) }
+{
+    match operand {
+        Expr::Name { name } => Some(name),
+        other => {
+            drop(other);
+            None
+        }
+    }
+}
+
 /// `(` behind an expression, which begins a call where that is a bare name.
-#[tactic(auto, using(crate::proofs::FrameViews::frames, dt_grammar::proofs::Trees::trees))]
-pub fn opens(
-    alloc: Global,
-    mut frames: Vec<Frame>,
-    operand: Expr,
-) -> Result<Option<State>, AllocError>
+#[tactic(auto, using(crate::proofs::StepViews::bare_names))]
+pub fn opens(alloc: Global, frames: Vec<Frame>, operand: Expr) -> Result<Option<State>, AllocError>
     ensures { IfOk result (λ next. option_map state_of next ≡ model.opens (frames_of frames.items) (tree_of operand)) }
 {
-    let Expr::Name { name } = operand else {
+    let Some(name) = into_name(operand) else {
         return Ok(None);
     };
-    frames.push(Frame::InCall {
+    let begun = Frame::InCall {
         name,
         args: Items::new(alloc),
         target: None,
-    })?;
-    Ok(Some(State::Want { frames }))
+    };
+    enter(begun, frames)
 }
 
 /// The frame behind a name and `=`, where it may take a name.
@@ -55,7 +66,6 @@ fn in_naming(frame: Frame, name: Text) -> Option<Frame>
             target: Some(name),
         }),
         other => {
-            // By a call, so that the proof has no case for each form that is dropped.
             drop(other);
             None
         }
@@ -63,11 +73,11 @@ fn in_naming(frame: Frame, name: Text) -> Option<Frame>
 }
 
 /// `=` behind an expression, which is a name there.
-#[tactic(auto, using(crate::proofs::FrameViews::frames, crate::proofs::StepViews::steps, dt_grammar::proofs::Trees::trees))]
+#[tactic(auto, using(crate::proofs::FrameViews::frames, crate::proofs::StepViews::steps, crate::proofs::StepViews::bare_names))]
 pub fn naming(mut frames: Vec<Frame>, operand: Expr) -> Result<Option<State>, AllocError>
     ensures { IfOk result (λ next. option_map state_of next ≡ model.naming (frames_of frames.items) (tree_of operand)) }
 {
-    let Expr::Name { name } = operand else {
+    let Some(name) = into_name(operand) else {
         return Ok(None);
     };
     let Some(frame) = frames.pop() else {
@@ -76,8 +86,7 @@ pub fn naming(mut frames: Vec<Frame>, operand: Expr) -> Result<Option<State>, Al
     let Some(next) = in_naming(frame, name) else {
         return Ok(None);
     };
-    frames.push(next)?;
-    Ok(Some(State::Want { frames }))
+    enter(next, frames)
 }
 
 /// The statement behind a name and `<-`.
@@ -99,11 +108,11 @@ fn in_arrow(frame: Frame, name: Text) -> Option<Frame>
 }
 
 /// `<-` behind an expression, which is a statement's target there.
-#[tactic(auto, using(crate::proofs::FrameViews::frames, crate::proofs::StepViews::steps, dt_grammar::proofs::Trees::trees))]
+#[tactic(auto, using(crate::proofs::FrameViews::frames, crate::proofs::StepViews::steps, crate::proofs::StepViews::bare_names))]
 pub fn arrow(mut frames: Vec<Frame>, operand: Expr) -> Result<Option<State>, AllocError>
     ensures { IfOk result (λ next. option_map state_of next ≡ model.arrow_top (frames_of frames.items) (tree_of operand)) }
 {
-    let Expr::Name { name } = operand else {
+    let Some(name) = into_name(operand) else {
         return Ok(None);
     };
     let Some(frame) = frames.pop() else {
@@ -112,8 +121,24 @@ pub fn arrow(mut frames: Vec<Frame>, operand: Expr) -> Result<Option<State>, All
     let Some(next) = in_arrow(frame, name) else {
         return Ok(None);
     };
-    frames.push(next)?;
-    Ok(Some(State::Want { frames }))
+    enter(next, frames)
+}
+
+/// The second item behind its left side and `:=`, where the items fill i alone.
+fn assigned(head: Head, filled: Filled, operand: Expr) -> Option<Frame>
+    ensures { option_map frame_of result ≡ in_assign (model.InItem (head_tree head) (filled_of filled)) (tree_of operand) }
+{
+    match filled {
+        Filled::UpToI { first } => Some(Frame::InAssign {
+            head,
+            first,
+            left: operand,
+        }),
+        other => {
+            drop((other, head, operand));
+            None
+        }
+    }
 }
 
 /// The frame behind the left side of an assignment and `:=`, where the item is j.
@@ -121,15 +146,11 @@ fn in_assign(frame: Frame, operand: Expr) -> Option<Frame>
     ensures { option_map frame_of result ≡ in_assign (frame_of frame) (tree_of operand) }
 {
     match frame {
-        Frame::InItem { head, filled } => match filled {
-            Filled::UpToI { first } => Some(Frame::InAssign {
-                head,
-                first,
-                left: operand,
-            }),
-            _ => None,
-        },
-        _ => None,
+        Frame::InItem { head, filled } => assigned(head, filled, operand),
+        other => {
+            drop((other, operand));
+            None
+        }
     }
 }
 
@@ -139,13 +160,13 @@ pub fn assign(mut frames: Vec<Frame>, operand: Expr) -> Result<Option<State>, Al
     ensures { IfOk result (λ next. option_map state_of next ≡ model.assign (closed_of frames.items operand)) }
 {
     let Some(frame) = frames.pop() else {
+        drop(operand);
         return Ok(None);
     };
     let Some(next) = in_assign(frame, operand) else {
         return Ok(None);
     };
-    frames.push(next)?;
-    Ok(Some(State::Want { frames }))
+    enter(next, frames)
 }
 
 /// The name behind a `+`, where a bare name and no other operator stands there.
@@ -208,6 +229,40 @@ fn one_name(alloc: Global, name: &Text) -> Result<Items<Text>, AllocError>
     Ok(names)
 }
 
+/// The names of a sum of bare names.
+fn into_names(alloc: Global, operand: Expr) -> Result<Option<Items<Text>>, AllocError>
+    ensures { IfOk result (λ names. names ≡ model.names_of (tree_of operand)) }
+{
+    let names = names_of(alloc, &operand);
+    drop(operand);
+    names
+}
+
+/// A formula begins in the argument of a call, where its left side is a sum of bare names.
+fn begin_formula(
+    alloc: Global,
+    call: Text,
+    args: Items<Arg>,
+    target: Option<Text>,
+    frames: Vec<Frame>,
+    operand: Expr,
+) -> Result<Option<State>, AllocError>
+    ensures { IfOk result (λ next. option_map state_of next
+        ≡ option_map (λ left. model.NeedWord call (args_of args) target left [] (frames_of frames.items)) (model.names_of (tree_of operand))) }
+{
+    let Some(left) = into_names(alloc, operand)? else {
+        return Ok(None);
+    };
+    let formula = Formula {
+        call,
+        args,
+        target,
+        left,
+        right: Items::new(alloc),
+    };
+    Ok(Some(State::NeedWord { formula, frames }))
+}
+
 /// `~` behind an expression that has come in these frames, which is the left side of a formula
 /// where it is a sum of bare names in a call.
 #[tactic(auto, using(crate::proofs::FrameViews::frames))]
@@ -219,22 +274,16 @@ pub fn tilde(
     ensures { IfOk result (λ next. option_map state_of next ≡ model.tilde (closed_of frames.items operand)) }
 {
     let Some(frame) = frames.pop() else {
+        drop(operand);
         return Ok(None);
     };
     match frame {
         Frame::InCall { name, args, target } => {
-            let Some(left) = names_of(alloc, &operand)? else {
-                return Ok(None);
-            };
-            let formula = Formula {
-                call: name,
-                args,
-                target,
-                left,
-                right: Items::new(alloc),
-            };
-            Ok(Some(State::NeedWord { formula, frames }))
+            begin_formula(alloc, name, args, target, frames, operand)
         }
-        _ => Ok(None),
+        other => {
+            drop((other, operand));
+            Ok(None)
+        }
     }
 }

@@ -1,11 +1,13 @@
-ghost use Rattle.std.specs.Prelude.{◌≡◌, ℕ, IfOk, option_map, ◌==◌};
+ghost use Rattle.std.specs.Prelude.{◌≡◌, ◌∷◌, ℕ, IfOk, Some, option_map, ◌==◌};
 ghost use Rattle.run_model.specs.Grammar as grammar;
+ghost use Rattle.run_model.specs.GrammarTrees as grammar_trees;
 ghost use Rattle.dt_grammar.specs.Machine as model;
 ghost use Rattle.run_model.specs.TreeView.{tree_of, tails_of};
 ghost use Rattle.dt_script.specs.Frames.{prefix_of, frame_of, frames_of, state_of, closed_of, binds, ended, frame_demand};
 
 use crate::frames::{Frame, Prefix, State};
 use crate::levels::{is_single, level, prefix_level};
+use crate::stack::{enter, put_back};
 use dt_tree::{BinOp, Expr, Tail};
 use sqlite_items::{Boxed, Items};
 use std::alloc::{AllocError, Global};
@@ -21,30 +23,61 @@ pub fn binds(frame: &Frame, least: u8) -> bool
     }
 }
 
-/// The operator with its last operand.
+/// A one-sided operator with its operand.
 #[tactic(auto, using(dt_grammar::proofs::Trees::trees))]
+fn unary(alloc: Global, prefix: Prefix, operand: Expr) -> Result<Expr, AllocError>
+    ensures { IfOk result (λ t. tree_of t ≡ grammar_trees.Unary (prefix_of prefix) (tree_of operand)) }
+{
+    let arg = Boxed::new(alloc, operand)?;
+    match prefix {
+        Prefix::Not => Ok(Expr::Not { arg }),
+        Prefix::Negate => Ok(Expr::Minus { arg }),
+    }
+}
+
+/// One more operator of a chain, with its operand.
+#[tactic(auto, using(dt_grammar::proofs::Trees::trees))]
+fn with_tail(mut rest: Items<Tail>, op: BinOp, operand: Expr) -> Result<Items<Tail>, AllocError>
+    ensures { IfOk result (λ all. tails_of all ≡ grammar_trees.MoreTails (tails_of rest) op (tree_of operand)) }
+{
+    rest.push(Tail { op, arg: operand })?;
+    Ok(rest)
+}
+
+/// A chain with its last operand.
+#[tactic(auto, using(dt_grammar::proofs::Trees::trees))]
+fn chain(
+    alloc: Global,
+    first: Expr,
+    rest: Items<Tail>,
+    op: BinOp,
+    operand: Expr,
+) -> Result<Expr, AllocError>
+    ensures { IfOk result (λ t. tree_of t ≡ grammar_trees.Chain (tree_of first) (grammar_trees.MoreTails (tails_of rest) op (tree_of operand))) }
+{
+    match with_tail(rest, op, operand) {
+        Ok(rest) => Ok(Expr::Chain {
+            first: Boxed::new(alloc, first)?,
+            rest,
+        }),
+        Err(error) => {
+            drop(first);
+            Err(error)
+        }
+    }
+}
+
+/// The operator with its last operand.
 pub fn ended(alloc: Global, frame: Frame, operand: Expr) -> Result<Expr, AllocError>
     ensures { IfOk result (λ t. tree_of t ≡ ended (frame_of frame) (tree_of operand)) }
 {
     match frame {
-        Frame::Front(Prefix::Not) => Ok(Expr::Not {
-            arg: Boxed::new(alloc, operand)?,
-        }),
-        Frame::Front(Prefix::Negate) => Ok(Expr::Minus {
-            arg: Boxed::new(alloc, operand)?,
-        }),
-        Frame::Left {
-            first,
-            mut rest,
-            op,
-        } => {
-            rest.push(Tail { op, arg: operand })?;
-            Ok(Expr::Chain {
-                first: Boxed::new(alloc, first)?,
-                rest,
-            })
+        Frame::Front(prefix) => unary(alloc, prefix, operand),
+        Frame::Left { first, rest, op } => chain(alloc, first, rest, op, operand),
+        other => {
+            drop(other);
+            Ok(operand)
         }
-        _ => Ok(operand),
     }
 }
 
@@ -61,8 +94,7 @@ pub fn close(
 {
     while let Some(frame) = frames.pop() {
         if !binds(&frame, least) {
-            frames.push(frame)?;
-            break;
+            return put_back(frame, frames, operand);
         }
         operand = ended(alloc, frame, operand)?;
     }
@@ -91,70 +123,98 @@ pub fn demand(frames: &[Frame]) -> u8
 }
 
 /// A one-sided operator.
-#[tactic(auto, using(crate::proofs::FrameViews::frames))]
-pub fn front(prefix: Prefix, mut frames: Vec<Frame>) -> Result<Option<State>, AllocError>
+pub fn front(prefix: Prefix, frames: Vec<Frame>) -> Result<Option<State>, AllocError>
     ensures { IfOk result (λ next. option_map state_of next ≡ model.front (prefix_of prefix) (frames_of frames.items)) }
 {
     if demand(&frames) > prefix_level(prefix) {
         return Ok(None);
     }
-    frames.push(Frame::Front(prefix))?;
-    Ok(Some(State::Want { frames }))
+    enter(Frame::Front(prefix), frames)
 }
 
 /// A chain begins with an expression that has come in these frames.
-#[tactic(auto, using(crate::proofs::FrameViews::frames))]
 fn begin_chain(
     alloc: Global,
     op: BinOp,
-    mut frames: Vec<Frame>,
+    frames: Vec<Frame>,
     operand: Expr,
 ) -> Result<Option<State>, AllocError>
     ensures { IfOk result (λ next. option_map state_of next ≡ model.begin_chain op (frames_of frames.items) (tree_of operand)) }
 {
     if demand(&frames) > level(op) {
+        drop((frames, operand));
         return Ok(None);
     }
-    frames.push(Frame::Left {
+    let begun = Frame::Left {
         first: operand,
         rest: Items::new(alloc),
         op,
-    })?;
-    Ok(Some(State::Want { frames }))
+    };
+    enter(begun, frames)
+}
+
+/// A chain begins with an expression that has come in this frame.
+fn begin_in(
+    alloc: Global,
+    op: BinOp,
+    frame: Frame,
+    frames: Vec<Frame>,
+    operand: Expr,
+) -> Result<Option<State>, AllocError>
+    ensures { IfOk result (λ next. option_map state_of next ≡ model.begin_chain op (frame_of frame ∷ frames_of frames.items) (tree_of operand)) }
+{
+    let (frames, operand) = put_back(frame, frames, operand)?;
+    begin_chain(alloc, op, frames, operand)
+}
+
+/// A chain goes on behind its last operand.
+fn go_on(
+    op: BinOp,
+    first: Expr,
+    rest: Items<Tail>,
+    last: BinOp,
+    frames: Vec<Frame>,
+    operand: Expr,
+) -> Result<Option<State>, AllocError>
+    ensures { IfOk result (λ next. option_map state_of next
+        ≡ Some (model.Want (model.Left (tree_of first) (grammar_trees.MoreTails (tails_of rest) last (tree_of operand)) op ∷ frames_of frames.items))) }
+{
+    match with_tail(rest, last, operand) {
+        Ok(rest) => enter(Frame::Left { first, rest, op }, frames),
+        Err(error) => {
+            drop((first, frames));
+            Err(error)
+        }
+    }
 }
 
 /// The operand of the last operator of a chain has come. The chain goes on where its operators are
 /// of the new one's level and may stand in a row, and otherwise is the operand of the next.
-#[tactic(auto, using(crate::proofs::FrameViews::frames, dt_grammar::proofs::Trees::trees))]
 fn extend_chain(
     alloc: Global,
     op: BinOp,
     first: Expr,
-    mut rest: Items<Tail>,
+    rest: Items<Tail>,
     last: BinOp,
-    mut frames: Vec<Frame>,
+    frames: Vec<Frame>,
     operand: Expr,
 ) -> Result<Option<State>, AllocError>
     ensures { IfOk result (λ next. option_map state_of next
         ≡ model.extend_chain (grammar.level last == grammar.level op) (grammar.is_single op) op (tree_of first) (tails_of rest) last (frames_of frames.items) (tree_of operand)) }
 {
     if level(last) != level(op) {
-        frames.push(Frame::Left {
+        let frame = Frame::Left {
             first,
             rest,
             op: last,
-        })?;
-        return begin_chain(alloc, op, frames, operand);
+        };
+        return begin_in(alloc, op, frame, frames, operand);
     }
     if is_single(op) {
+        drop((first, rest, frames, operand));
         return Ok(None);
     }
-    rest.push(Tail {
-        op: last,
-        arg: operand,
-    })?;
-    frames.push(Frame::Left { first, rest, op })?;
-    Ok(Some(State::Want { frames }))
+    go_on(op, first, rest, last, frames, operand)
 }
 
 /// A two-sided operator behind an expression that has come in these frames. It goes on with a
@@ -177,9 +237,6 @@ pub fn infix_op(
             rest,
             op: last,
         } => extend_chain(alloc, op, first, rest, last, frames, operand),
-        frame => {
-            frames.push(frame)?;
-            begin_chain(alloc, op, frames, operand)
-        }
+        frame => begin_in(alloc, op, frame, frames, operand),
     }
 }

@@ -1,4 +1,4 @@
-ghost use Rattle.std.specs.Prelude.{◌≡◌, ◌∷◌, IfOk, Some, None, option_map};
+ghost use Rattle.std.specs.Prelude.{◌≡◌, ◌∷◌, ◌++◌, [], IfOk, Some, None, option_map};
 ghost use Rattle.run_model.specs.TreeView.{tree_of, args_of, stmts_of};
 ghost use Rattle.run_model.specs.GrammarTrees as grammar;
 ghost use Rattle.dt_grammar.specs.Machine as model;
@@ -9,6 +9,7 @@ use crate::endings::last_stmt;
 use crate::frames::{Filled, Formula, Frame, Head, State, Symbol};
 use crate::having::have;
 use crate::operators::close;
+use crate::stack::enter;
 use crate::wanting::want;
 use dt_base::{Op, Text};
 use dt_tree::{Arg, BinOp, Expr, Stmt};
@@ -27,26 +28,10 @@ fn need_name(head: Head, filled: Filled, frames: Vec<Frame>, symbol: Symbol) -> 
             frames,
         }),
         other => {
-            // By a call, so that the proof has no case for each form that is dropped.
             drop((other, head, filled));
             None
         }
     }
-}
-
-/// An item begins behind its name and `=`.
-#[tactic(auto, using(crate::proofs::FrameViews::frames))]
-fn begin_named(
-    head: Head,
-    filled: Filled,
-    name: Text,
-    mut frames: Vec<Frame>,
-) -> Result<Option<State>, AllocError>
-    ensures { IfOk result (λ next. option_map state_of next
-        ≡ Some (model.Want (model.InNamed (head_tree head) (filled_of filled) name ∷ frames_of frames.items))) }
-{
-    frames.push(Frame::InNamed { head, filled, name })?;
-    Ok(Some(State::Want { frames }))
 }
 
 /// A token behind the name of an item.
@@ -61,13 +46,25 @@ fn need_is(
         ≡ model.step (model.NeedIs (head_tree head) (filled_of filled) name (frames_of frames.items)) (symbol_of symbol)) }
 {
     match symbol {
-        Symbol::Is => begin_named(head, filled, name, frames),
+        Symbol::Is => enter(Frame::InNamed { head, filled, name }, frames),
         other => {
-            // By a call, so that the proof has no case for each form that is dropped.
             drop((other, head, filled));
             Ok(None)
         }
     }
+}
+
+/// A name on the right of `~`.
+fn one_more(
+    mut formula: Formula,
+    name: Text,
+    frames: Vec<Frame>,
+) -> Result<Option<State>, AllocError>
+    ensures { IfOk result (λ next. option_map state_of next
+        ≡ Some (model.HaveWords formula.call (args_of formula.args) formula.target formula.left (formula.right ++ name ∷ []) (frames_of frames.items))) }
+{
+    formula.right.push(name)?;
+    Ok(Some(State::HaveWords { formula, frames }))
 }
 
 /// A token where a name on the right of `~` is to come.
@@ -79,28 +76,12 @@ fn need_word(
     ensures { IfOk result (λ next. option_map state_of next
         ≡ model.step (model.NeedWord formula.call (args_of formula.args) formula.target formula.left formula.right (frames_of frames.items)) (symbol_of symbol)) }
 {
-    let Formula {
-        call,
-        args,
-        target,
-        left,
-        mut right,
-    } = formula;
     match symbol {
-        Symbol::Name(name) => {
-            right.push(name)?;
-            Ok(Some(State::HaveWords {
-                formula: Formula {
-                    call,
-                    args,
-                    target,
-                    left,
-                    right,
-                },
-                frames,
-            }))
+        Symbol::Name(name) => one_more(formula, name, frames),
+        other => {
+            drop((other, formula));
+            Ok(None)
         }
-        _ => Ok(None),
     }
 }
 
@@ -145,18 +126,17 @@ fn end_call(formula: Formula, frames: Vec<Frame>) -> Result<Option<State>, Alloc
 }
 
 /// `,` behind a formula: the next argument of its call begins.
-#[tactic(auto, using(crate::proofs::FrameViews::frames))]
-fn next_argument(formula: Formula, mut frames: Vec<Frame>) -> Result<Option<State>, AllocError>
+fn next_argument(formula: Formula, frames: Vec<Frame>) -> Result<Option<State>, AllocError>
     ensures { IfOk result (λ next. option_map state_of next
         ≡ Some (model.Want (model.InCall formula.call (grammar.MoreArgs (args_of formula.args) formula.target (grammar.Formula formula.left formula.right)) None ∷ frames_of frames.items))) }
 {
     let (name, args) = argument(formula)?;
-    frames.push(Frame::InCall {
+    let next = Frame::InCall {
         name,
         args,
         target: None,
-    })?;
-    Ok(Some(State::Want { frames }))
+    };
+    enter(next, frames)
 }
 
 /// A token behind the names on the right of `~`.
@@ -173,7 +153,6 @@ fn have_words(
         Symbol::Shut => end_call(formula, frames),
         Symbol::Comma => next_argument(formula, frames),
         other => {
-            // By a call, so that the proof has no case for each form that is dropped.
             drop((other, formula));
             Ok(None)
         }
@@ -232,20 +211,6 @@ fn finish_stmt(
     last_stmt(frames, operand)
 }
 
-/// No statements, where the name of an item is to come.
-fn finish_unnamed(_head: Head, _filled: Filled, _frames: Vec<Frame>) -> Option<Items<Stmt>>
-    ensures { result ≡ None }
-{
-    None
-}
-
-/// No statements, in a formula.
-fn finish_formula(_formula: Formula, _frames: Vec<Frame>) -> Option<Items<Stmt>>
-    ensures { result ≡ None }
-{
-    None
-}
-
 /// The statements, where the script may end here.
 pub fn finish(alloc: Global, state: State) -> Result<Option<Items<Stmt>>, AllocError>
     ensures { IfOk result (λ done. option_map stmts_of done ≡ model.finish (state_of state)) }
@@ -253,18 +218,9 @@ pub fn finish(alloc: Global, state: State) -> Result<Option<Items<Stmt>>, AllocE
     match state {
         State::Want { frames } => Ok(finish_none(frames)),
         State::Have { frames, operand } => finish_stmt(alloc, frames, operand),
-        State::NeedName {
-            head,
-            filled,
-            frames,
-        } => Ok(finish_unnamed(head, filled, frames)),
-        State::NeedIs {
-            head,
-            filled,
-            name: _name,
-            frames,
-        } => Ok(finish_unnamed(head, filled, frames)),
-        State::NeedWord { formula, frames } => Ok(finish_formula(formula, frames)),
-        State::HaveWords { formula, frames } => Ok(finish_formula(formula, frames)),
+        other => {
+            drop(other);
+            Ok(None)
+        }
     }
 }

@@ -7,6 +7,7 @@ ghost use Rattle.dt_script.specs.Frames.{frames_of, state_of, symbol_of};
 use crate::endings::{break_none, comma_none, shut_none, shut_square_none};
 use crate::frames::{Frame, Prefix, State, Symbol};
 use crate::operators::front;
+use crate::stack::enter;
 use dt_base::{Cell, ColType, Op, Text};
 use dt_tree::{BinOp, Expr};
 use std::alloc::{AllocError, Global};
@@ -55,15 +56,6 @@ fn name(name: Text, frames: Vec<Frame>) -> State
     }
 }
 
-/// `(` where an expression is to come.
-#[tactic(auto, using(crate::proofs::FrameViews::frames))]
-fn open_paren(mut frames: Vec<Frame>) -> Result<Option<State>, AllocError>
-    ensures { IfOk result (λ next. option_map state_of next ≡ Some (model.Want (model.InParen ∷ frames_of frames.items))) }
-{
-    frames.push(Frame::InParen)?;
-    Ok(Some(State::Want { frames }))
-}
-
 /// A two-sided operator where an expression is to come: only `-` has a one-sided sense.
 fn operator(op: BinOp, frames: Vec<Frame>) -> Result<Option<State>, AllocError>
     ensures { IfOk result (λ next. option_map state_of next ≡ model.step (model.Want (frames_of frames.items)) (Operator op)) }
@@ -92,7 +84,7 @@ pub fn want(alloc: Global, frames: Vec<Frame>, symbol: Symbol) -> Result<Option<
         Symbol::Name(text) => Ok(Some(name(text, frames))),
         Symbol::Operator(op) => operator(op, frames),
         Symbol::Bang => front(Prefix::Not, frames),
-        Symbol::Open => open_paren(frames),
+        Symbol::Open => enter(Frame::InParen, frames),
         Symbol::Shut => Ok(shut_none(frames)),
         Symbol::ShutSquare => shut_square_none(alloc, frames),
         Symbol::Comma => comma_none(alloc, frames),
