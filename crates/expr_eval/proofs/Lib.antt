@@ -1,5 +1,6 @@
 pub mod Between
 pub mod Bindings
+pub mod Ends
 pub mod Given
 pub mod NextOne
 pub mod Plain

@@ -1,10 +1,18 @@
-use Rattle.std.proofs.Common.{◌∙◌, ◌+◌, [], ◌∷◌, ap, length, map, length-append}
+use Rattle.std.proofs.Common.{◌∙◌, ◌+◌, ℕ, Option, Vec, Global, [], ◌∷◌, ap, arith, length, map, length-append}
 use Rattle.std.proofs.lemmas.List.{map-append}
+use Rattle.func_table.specs.declared.formal.Formal.{Formal}
+use Rattle.func_table.specs.declared.slot.Slot.{Slot}
+use Rattle.session_model.proofs.InOrder.{in_order}
+use Rattle.session_model.specs.Expression.{arg_at, names_in, slot_at}
 use Rattle.session_model.specs.Meaning.{arg_meaning}
-use Rattle.session_model.specs.Meanings.{ArgMeaning}
+use Rattle.session_model.specs.Meanings.{ArgMeaning, Meaning}
 use Rattle.vec_funcs.specs.Valued.{valued_of}
+use Rattle.vec_funcs.specs.declared.valued.Valued.{Valued}
 use Rattle.expr_eval.proofs.NextOne.{each_at}
-use Rattle.expr_eval.proofs.Touched.{literals_joined, literals_next, ones_more}
+use Rattle.expr_eval.proofs.Ends.{no_memory, each_stopped, each_all, formals_all}
+use Rattle.expr_eval.specs.Slots.{slot_of}
+use Rattle.expr_eval.specs.declared.operands.Operand.{Operand}
+use Rattle.expr_eval.proofs.Touched.{costs, literals_joined, literals_next, ones_more}
 use Rattle.expr_eval.proofs.values.+eval.Goals as goal
 use Rattle.expr_eval.specs.Scope.{env_of}
 
@@ -24,3 +32,71 @@ values_of_each-loop-a-preserved g t c = (
       (c.in_ok-value.ensures.literal (literals_next c.args.args.now c.loop-a.a-index c.a-item.result c.loop-a-test.true c.a-item.is (c.loop-a.invariant.2 lit)).0) c.in_ok-add.ensures.ok,
   λ lit. c.in_ok-value.ensures.unread (literals_next c.args.args.now c.loop-a.a-index c.a-item.result c.loop-a-test.true c.a-item.is (c.loop-a.invariant.2 lit)).0 ∙ c.loop-a.invariant.4 lit,
 )
+
+pub values_of_each-returns-in_err-value-clause-answer : goal.values_of_each-returns-in_err-value-clause-answer
+values_of_each-returns-in_err-value-clause-answer g t c =
+    each_stopped (λ (v : Vec Valued Global). map valued_of v.items) valued_of arg_meaning (λ (a : ArgMeaning). a.means.value (env_of g.V.Vars.bound c.args.s.now)) _
+    (map valued_of c.loop-a.done.items) c.args.args.now c.loop-a.a-index c.a-item.result c.in_err-value.field-0.0 c.from_residual.result
+    c.loop-a.invariant.0 c.loop-a-test.true c.a-item.is c.in_err-value.ensures.answer c.from_residual.ensures.1
+
+pub values_of_each-returns-in_err-value-clause-unread : goal.values_of_each-returns-in_err-value-clause-unread
+values_of_each-returns-in_err-value-clause-unread g t c =
+    λ lit. c.in_err-value.ensures.unread (literals_next c.args.args.now c.loop-a.a-index c.a-item.result c.loop-a-test.true c.a-item.is (c.loop-a.invariant.2 lit)).0 ∙ c.loop-a.invariant.4 lit
+
+pub values_of_each-returns-in_err-add-clause-answer : goal.values_of_each-returns-in_err-add-clause-answer
+values_of_each-returns-in_err-add-clause-answer g t c =
+    no_memory (λ (v : Vec Valued Global). map valued_of v.items) _ c.in_err-add.field-0.0 c.from_residual-in_err-add.result c.in_err-add.ensures.err c.from_residual-in_err-add.ensures.1
+
+pub values_of_each-returns-in_err-add-clause-unread : goal.values_of_each-returns-in_err-add-clause-unread
+values_of_each-returns-in_err-add-clause-unread g t c =
+    λ lit. c.in_ok-value.ensures.unread (literals_next c.args.args.now c.loop-a.a-index c.a-item.result c.loop-a-test.true c.a-item.is (c.loop-a.invariant.2 lit)).0 ∙ c.loop-a.invariant.4 lit
+
+pub values_of_each-returns-clause-answer : goal.values_of_each-returns-clause-answer
+values_of_each-returns-clause-answer g t c =
+    each_all arg_meaning (λ (a : ArgMeaning). a.means.value (env_of g.V.Vars.bound c.args.s.now)) _ (map valued_of c.loop-a.done.items) c.args.args.now c.loop-a.a-index
+    c.loop-a.invariant.0 c.loop-a-test.false
+
+pub values_of_each-returns-clause-literals : goal.values_of_each-returns-clause-literals
+values_of_each-returns-clause-literals g t c = c.loop-a.invariant.3
+
+pub values_of_each-returns-clause-unread : goal.values_of_each-returns-clause-unread
+values_of_each-returns-clause-unread g t c = c.loop-a.invariant.4
+
+pub eval_formals-returns-in_err-add-clause-answer : goal.eval_formals-returns-in_err-add-clause-answer
+eval_formals-returns-in_err-add-clause-answer g t c =
+    no_memory (λ (v : Vec (Slot Operand) Global). map slot_of v.items) _ c.in_err-add.field-0.0 c.from_residual-in_err-add.result c.in_err-add.ensures.err c.from_residual-in_err-add.ensures.1
+
+pub eval_formals-returns-clause-answer : goal.eval_formals-returns-clause-answer
+eval_formals-returns-clause-answer g t c =
+    formals_all (names_in (map arg_meaning c.args.args.now)) (λ (x : Formal × Option ℕ). slot_at (λ (m : Meaning). m.value (env_of g.V.Vars.bound c.args.s.now)) x.0 (arg_at (map arg_meaning c.args.args.now) x.1)) _
+    (map slot_of c.loop-p.done.items) c.args.ps.now c.loop-p.p-index c.loop-p.before c.loop-p.invariant.1 c.loop-p-test.false
+
+pub eval_formals-loop-p-init : goal.eval_formals-loop-p-init
+eval_formals-loop-p-init g t c = grind (arith, in_order)
+
+pub eval_kind-returns-in-Table-clause-touches : goal.eval_kind-returns-in-Table-clause-touches
+eval_kind-returns-in-Table-clause-touches g t c = grind (arith, costs)
+
+pub eval_kind-returns-in-Command-clause-touches : goal.eval_kind-returns-in-Command-clause-touches
+eval_kind-returns-in-Command-clause-touches g t c = grind (arith, costs)
+
+pub eval_kind-returns-in-Description-clause-touches : goal.eval_kind-returns-in-Description-clause-touches
+eval_kind-returns-in-Description-clause-touches g t c = grind (arith, costs)
+
+pub eval_bound-returns-in_err-bind-clause-touches : goal.eval_bound-returns-in_err-bind-clause-touches
+eval_bound-returns-in_err-bind-clause-touches g t c = grind (arith, costs)
+
+pub eval_bound-returns-in-Columns-clause-touches : goal.eval_bound-returns-in-Columns-clause-touches
+eval_bound-returns-in-Columns-clause-touches g t c = grind (arith, costs)
+
+pub eval_bound-returns-in-Unnamed-clause-touches : goal.eval_bound-returns-in-Unnamed-clause-touches
+eval_bound-returns-in-Unnamed-clause-touches g t c = grind (arith, costs)
+
+pub eval_call-returns-in_err-eval_kind-in-Some-clause-touches : goal.eval_call-returns-in_err-eval_kind-in-Some-clause-touches
+eval_call-returns-in_err-eval_kind-in-Some-clause-touches g t c = grind (arith, costs)
+
+pub eval_call-returns-in_ok-eval_kind-in-Some-clause-touches : goal.eval_call-returns-in_ok-eval_kind-in-Some-clause-touches
+eval_call-returns-in_ok-eval_kind-in-Some-clause-touches g t c = grind (arith, costs)
+
+pub eval_operand-returns-in-Call-clause-touches : goal.eval_operand-returns-in-Call-clause-touches
+eval_operand-returns-in-Call-clause-touches g t c = grind (arith, costs)
