@@ -1,4 +1,4 @@
-ghost use Rattle.std.specs.Prelude.{◌≡◌, ◌≤◌, ◌⊎◌, ◌++◌, ◌∷◌, [], IfOk, IfErr, OnOk, All, length, map};
+ghost use Rattle.std.specs.Prelude.{◌≡◌, ◌<◌, ◌≤◌, ◌+◌, ◌⊎◌, ◌++◌, ◌∷◌, [], IfOk, IfErr, OnOk, All, length, map};
 ghost use Rattle.arg_bind.specs.Answers.{AnswersAs, IsOwn};
 ghost use Rattle.dt_base.specs.declared.limits.TheConstants.{MAX_ROWS};
 ghost use Rattle.dt_query.specs.Answers.{plain_answer};
@@ -21,11 +21,38 @@ use dt_base::{Code, ColName, Steps};
 use dt_table::Table;
 use dt_tree::Arg;
 use expr_eval::{Scope, Vars, kinds_of_each, values_of_each, warns_of_values};
-use na_vector::Frame;
+use na_vector::{Column, Frame};
 use row_choice::{common_length, repeated};
 use std::alloc::{AllocError, Global};
 use std::sync::ledger::Ledger;
 use vec_funcs::Valued;
+
+/// Puts one more at the end.
+pub fn add<T: Drop>(list: &mut Vec<T>, x: T) -> Result<(), AllocError>
+    ensures { OnOk result (list.new.items ≡ list.old.items ++ x ∷ []) }
+{
+    list.push(x)?;
+    Ok(())
+}
+
+/// Puts a column, brought to n cells, behind the others.
+fn push_repeated<L: Ledger>(
+    alloc: Global,
+    frame: &mut Frame,
+    column: Column,
+    n: usize,
+    steps: &mut Steps<L>,
+) -> Result<(), AllocError>
+    requires fits { (length column.vector.cells ≡ 1) ⊎ (length column.vector.cells ≡ n) }
+    requires short { n ≤ MAX_ROWS }
+    requires rows { 0 < length frame.old.columns → frame.old.rows ≡ n }
+    ensures vectors { OnOk result (vectors_of frame.new.columns ≡ vectors_of frame.old.columns ++ repeated n column.vector ∷ []) }
+    ensures rows { OnOk result (frame.new.rows ≡ n) }
+    ensures count { OnOk result (length frame.new.columns ≡ length frame.old.columns + 1) }
+{
+    let whole = repeated(alloc, column, n, steps)?;
+    frame.push_col(whole)
+}
 
 /// The columns of the values, each brought to n cells.
 fn repeated_columns<L: Ledger>(
@@ -42,7 +69,7 @@ fn repeated_columns<L: Ledger>(
 {
     let mut frame = Frame::new(alloc);
     for value in values {
-        frame.push_col(repeated(alloc, value.column, n, steps)?)?;
+        push_repeated(alloc, &mut frame, value.column, n, steps)?;
     }
     Ok(frame)
 }
@@ -121,14 +148,6 @@ fn argument_value<V: Vars, L: Ledger>(
     checked_value(alloc, &a.value, s, steps)
 }
 
-/// Puts a value behind the others.
-fn push_value(values: &mut Vec<Valued>, value: Valued) -> Result<(), AllocError>
-    ensures { OnOk result (values.new.items ≡ values.old.items ++ value ∷ []) }
-{
-    values.push(value)?;
-    Ok(())
-}
-
 /// The values of expressions, each checked and valued before the next one is looked at.
 fn values_in_turn<V: Vars, L: Ledger>(
     alloc: Global,
@@ -144,7 +163,7 @@ fn values_in_turn<V: Vars, L: Ledger>(
     let mut values = Vec::new(alloc);
     for a in args {
         let value = argument_value(alloc, a, s, steps)?;
-        push_value(&mut values, value)?;
+        add(&mut values, value)?;
     }
     Ok(values)
 }

@@ -1,4 +1,4 @@
-ghost use Rattle.std.specs.Prelude.{◌≡◌, ◌<◌, IfOk, IfSome, All, None, Some, length, map};
+ghost use Rattle.std.specs.Prelude.{◌≡◌, ◌<◌, ◌++◌, ◌∷◌, [], OnOk, IfOk, IfSome, All, None, Some, length, map};
 ghost use Rattle.dt_model.specs.Table.{place_of};
 ghost use Rattle.dt_table.specs.Table.{IsFilled};
 ghost use Rattle.expr_eval.specs.Scope.{columns_of, column_seen, env_of, IsScope};
@@ -8,6 +8,7 @@ ghost use Rattle.session_model.specs.Columns.{numbered_name, is_column, special_
 ghost use Rattle.session_model.specs.Form.{BareName};
 ghost use Rattle.session_model.specs.Meaning.{meaning, arg_meaning};
 
+use crate::lists::add;
 use arg_bind::bare_name;
 use dt_base::{ColName, Text};
 use dt_tree::{Arg, Expr};
@@ -188,6 +189,22 @@ fn item_name<V: Vars>(
     }
 }
 
+/// Puts the name of the column that an item gives behind the others.
+fn push_name<V: Vars>(
+    alloc: Global,
+    names: &mut Vec<ColName>,
+    s: &Scope<'_, V>,
+    place: usize,
+    arg: &Arg,
+) -> Result<(), AllocError>
+    requires { IsScope s.now }
+    ensures names { OnOk result (names.new.items ≡ names.old.items ++ item_name (env_of V.bound s.now) place (arg_meaning arg.now) ∷ []) }
+    ensures filled { All IsFilled names.old.items → OnOk result (All IsFilled names.new.items) }
+{
+    let name = item_name(alloc, s, place, arg)?;
+    add(names, name)
+}
+
 /// The names of the columns that these items give.
 ///
 /// A column has the name that is written. In a bracket a bare column keeps its name, and `.N` is
@@ -205,7 +222,7 @@ pub fn item_names<V: Vars>(
 {
     let mut names = Vec::new(alloc);
     for (i, arg) in args.iter().enumerate() {
-        names.push(item_name(alloc, s, i + 1, arg)?)?;
+        push_name(alloc, &mut names, s, i + 1, arg)?;
     }
     Ok(names)
 }

@@ -8,7 +8,7 @@ ghost use Rattle.session_model.specs.Columns.{text_columns, vector_answer};
 ghost use Rattle.session_model.specs.Form.{text_in};
 ghost use Rattle.session_model.specs.Meaning.{meaning, arg_meaning, one_text, texts_or};
 
-use crate::lists::list_answer;
+use crate::lists::{add, list_answer};
 use crate::texts::{call_texts, text_columns};
 use crate::{Answer, Outcome};
 use arg_bind::{EvalFail, text_literal};
@@ -42,8 +42,9 @@ fn vector_answer<V: Vars, L: Ledger>(
 fn one_name(alloc: Global, name: &str) -> Result<Vec<ColName>, AllocError>
     ensures { IfOk result (λ v. v.items ≡ name.now ∷ []) }
 {
+    let name = Text::make(alloc, name)?;
     let mut names = Vec::new(alloc);
-    names.push(Text::make(alloc, name)?)?;
+    add(&mut names, name)?;
     Ok(names)
 }
 
