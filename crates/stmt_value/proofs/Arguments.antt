@@ -1,25 +1,19 @@
 -- The argument at a place.
-use Rattle.std.proofs.Common.{◌≡◌, ◌<◌, ◌≤◌, ℕ, List, Option, Some, Result, Ok, Err, length, map, slice_index_or, option_map, refl, sym, ap, subst, ◌∙◌}
+use Rattle.std.proofs.Common.{◌≡◌, ◌<◌, ◌≤◌, ℕ, List, Option, Some, Result, Ok, Err, length, map, slice_index_or, option_map, refl, ap, ◌∙◌}
 use Rattle.std.proofs.lemmas.Option.{slice_get-map, slice_get_read, slice_get_past}
 use Rattle.arg_bind.specs.Answers.{AnswersAs}
 use Rattle.arg_bind.specs.Answers as eval
 use Rattle.arg_bind.specs.declared.fail.EvalFail.{EvalFail}
 use Rattle.arg_bind.specs.declared.fail.EvalFail.TheVariants as eval_fail
 use Rattle.dt_base.specs.declared.fault.Fault.{Fault}
-use Rattle.vector_model.specs.Then.{then_do}
 use Rattle.std.specs.Borrow.{Bor}
 use Rattle.dt_tree.specs.declared.tree.Expr.{Expr}
-use Rattle.stmt_value.specs.Values.{plain_given}
-use Rattle.stmt_value.specs.Answers.{Gives, IsStop}
-use Rattle.stmt_value.specs.declared.fail.ValueFail.{ValueFail}
-use Rattle.stmt_value.specs.declared.fail.ValueFail.TheVariants as fail
 use Rattle.dt_tree.specs.declared.tree.Arg.{Arg}
 use Rattle.expr_model.specs.Unbuilt.{unbuilt}
 use Rattle.session_model.specs.Calls.{there}
 use Rattle.session_model.specs.Expression.{arg_at}
 use Rattle.session_model.specs.Meaning.{meaning, arg_meaning}
 use Rattle.session_model.specs.Meanings.{Meaning}
-use Rattle.session_model.specs.Value as model
 
 -- the argument at a place that is within the list
 pub found : (args : List Arg) (o : Option ℕ) (i : ℕ) (a : Arg) (m : Meaning) → o ≡ Some i → i < length args → a ≡ slice_index_or args i a → (arg_meaning a).means ≡ m → there (arg_at (map arg_meaning args) o) ≡ Ok m
@@ -38,12 +32,3 @@ not_found args o i p h =
 pub argument_missing : (o : Result Meaning Fault) (e : EvalFail) → o ≡ Err unbuilt → eval.IsStop unbuilt e → AnswersAs {B = Bor Expr} (λ (x : Bor Expr). meaning x.now) o (Err e)
 argument_missing o (eval_fail.Stop g) h s = h ∙ ap Err s
 argument_missing o (eval_fail.NoMemory x) h s = tt
-
-pub argument_refused : (o : Result Meaning Fault) (k : Meaning → Result model.Given Fault) (e : ValueFail) → o ≡ Err unbuilt → IsStop unbuilt e → Gives plain_given (then_do o k) (Err e)
-argument_refused o k (fail.Stop g) h s = ap (λ x. then_do x k) h ∙ ap Err s
-argument_refused o k fail.ReadFault h s = absurd s
-argument_refused o k (fail.NoMemory x) h s = tt
-
--- what an argument gives is what the definition asks for
-pub argument_gives : {A B C : Type 0} (view : B → A) (o : Result C Fault) (k : C → Result A Fault) (m : C) (r : Result B ValueFail) → o ≡ Ok m → Gives view (k m) r → Gives view (then_do o k) r
-argument_gives view o k m r h s = subst (λ x. Gives view (then_do x k) r) (sym h) s

@@ -1,11 +1,6 @@
 -- Expressions that give their vector as a statement's value.
 --   GivesVector m w    what m gives is its vector
-use Rattle.std.proofs.Common.{rules, ◌≡◌, ◌∙◌, ◌⊎◌, ℕ, List, Some, Result, Ok, Err, inl, inr, map, refl, sym, ap, subst}
-use Rattle.std.specs.Prelude.{IsErrAnd}
-use Rattle.arg_bind.specs.Answers.{AnswersAs}
-use Rattle.arg_bind.specs.declared.fail.EvalFail.{EvalFail}
-use Rattle.arg_bind.specs.declared.fail.EvalFail.TheVariants as eval
-use Rattle.dt_base.specs.declared.fault.Fault.{Fault}
+use Rattle.std.proofs.Common.{rules, ◌≡◌, ◌∙◌, ◌⊎◌, ℕ, List, Option, None, Some, inl, inr, map, refl, sym, ap, subst}
 use Rattle.dt_tree.specs.declared.tree.Arg.{Arg}
 use Rattle.dt_tree.specs.declared.tree.Expr.{Expr, the_lemmas}
 use Rattle.dt_tree.specs.declared.tree.Expr.TheOpen.{Expr-F}
@@ -18,9 +13,7 @@ use Rattle.func_table.specs.Calls.{func_of, kind_of}
 use Rattle.session_model.specs.Meaning.{meaning, arg_meaning, tail_meaning, expr_step, vector_gives, call_of, call_given, call_gives, kind_gives}
 use Rattle.session_model.specs.Meanings.{Meaning, ArgMeaning}
 use Rattle.session_model.specs.Value.{Scene}
-use Rattle.stmt_value.specs.Answers.{Gives}
-use Rattle.stmt_value.specs.Fails.{widened}
-use Rattle.stmt_value.specs.declared.fail.ValueFail.{ValueFail}
+use Rattle.stmt_value.specs.Calls.{call_or, known_call}
 
 -- what it gives is its vector
 abbrev pub GivesVector : Meaning → Scene → Type 0
@@ -53,28 +46,20 @@ sign_gives e w h =
       ]
     ]
 
-kind_gives_vector : (name : List ℕ) (f : Func) (args : List ArgMeaning) (w : Scene) (k : Kind) → (k ≡ kind.Vector) ⊎ (k ≡ kind.Description) → kind_gives k name f args w ≡ call_given name args w
-kind_gives_vector name f args w k h =
-    elim h [
-      | inl p ↦ ap (λ x. kind_gives x name f args w) p
-      | inr p ↦ ap (λ x. kind_gives x name f args w) p
-    ]
+-- ---- Calls
 
--- a call of a function that gives a vector
-pub call_gives_vector : (e : Expr) (w : Scene) (name : List ℕ) (args : List Arg) (f : Func) (k : Kind) → e ≡ Call name args → func_of name ≡ Some f → k ≡ kind_of f → (k ≡ kind.Vector) ⊎ (k ≡ kind.Description) → GivesVector (meaning e) w
-call_gives_vector e w name args f k p h i j =
-    of_meaning e (Call name args) (call_of name (map arg_meaning args)) w p (meaning-Call name args)
-    (ap (λ o. call_gives name o (map arg_meaning args) w) h
-    ∙ ap (λ x. kind_gives x name f (map arg_meaning args) w) (sym i)
-    ∙ kind_gives_vector name f (map arg_meaning args) w k j)
+known_alike : (k : Kind) (name : List ℕ) (f : Func) (args : List ArgMeaning) (w : Scene) → kind_gives k name f args w ≡ known_call k f args (call_given name args) w
+known_alike kind.Vector name f args w = refl
+known_alike kind.Description name f args w = refl
+known_alike kind.Table name f args w = refl
+known_alike kind.Command name f args w = refl
 
-refused_as : {A B : Type 0} (view : B → A) (o p : Result A Fault) (e : EvalFail) → o ≡ p → AnswersAs view p (Err e) → Gives view o (Err (widened e))
-refused_as view o p (eval.Stop f) q h = q ∙ h
-refused_as view o p (eval.NoMemory x) q h = tt
+call_alike : (name : List ℕ) (o : Option Func) (args : List ArgMeaning) (w : Scene) → call_gives name o args w ≡ call_or o args (call_given name args) w
+call_alike name None args w = refl
+call_alike name (Some f) args w = known_alike (kind_of f) name f args w
 
--- a refusal, where the definition gives the same as another
-pub refused_value : {A B : Type 0} (view : B → A) (o p : Result A Fault) (e : EvalFail) (r : Result B ValueFail) → o ≡ p → AnswersAs view p (Err e) → IsErrAnd r (λ f. f ≡ widened e) → Gives view o r
-refused_value view o p e (Ok x) q h s = absurd s
-refused_value view o p e (Err f) q h s =
-    let P : ValueFail → Type 0 = λ x. Gives view o (Err x) in
-    subst P (sym s) (refused_as view o p e q h)
+-- what a call gives, by its vector
+pub call_gives_by : (e : Expr) (w : Scene) (name : List ℕ) (args : List Arg) → e ≡ Call name args → (meaning e).gives w ≡ call_or (func_of name) (map arg_meaning args) (vector_gives (meaning e).check (meaning e).value) w
+call_gives_by e w name args p =
+    let P : Meaning → Type 0 = λ m. m.gives w ≡ call_or (func_of name) (map arg_meaning args) (vector_gives m.check m.value) w in
+    subst P (sym (ap meaning p ∙ meaning-Call name args)) (call_alike name (func_of name) (map arg_meaning args) w)

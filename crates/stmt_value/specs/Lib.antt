@@ -1,5 +1,6 @@
 pub mod Answers
+pub mod Calls
 pub mod Fails
 pub mod Joins
-pub mod Made
+pub mod Reads
 pub mod Values

@@ -1,5 +1,7 @@
 ghost use Rattle.expr_model.specs.Unbuilt.{unbuilt};
+ghost use Rattle.std.specs.Prelude.{◌≡◌};
 ghost use Rattle.stmt_value.specs.Answers.{IsStop};
+ghost use Rattle.stmt_value.specs.Reads.{unread};
 ghost use Rattle.dt_base.specs.Fault.{fault};
 
 use arg_bind::{EvalFail, stop_unbuilt};
@@ -36,6 +38,17 @@ impl From<AllocError> for ValueFail {
 
     fn from(e: AllocError) -> ValueFail {
         ValueFail::NoMemory(e)
+    }
+}
+
+/// The answer of a call that reads no file, as that of a call that may read some.
+pub fn unread<T: Drop>(answer: Result<T, EvalFail>) -> Result<T, ValueFail>
+    ensures { result ≡ unread answer }
+{
+    match answer {
+        Ok(given) => Ok(given),
+        Err(EvalFail::Stop(fault)) => Err(ValueFail::Stop(fault)),
+        Err(EvalFail::NoMemory(error)) => Err(ValueFail::NoMemory(error)),
     }
 }
 

@@ -1,20 +1,21 @@
-ghost use Rattle.std.specs.Prelude.{◌≡◌, ◌≤◌, IfOk, IfErr, IsSome, IsErrOf, length};
+ghost use Rattle.std.specs.Prelude.{◌≤◌, IfOk, IfErr, IsSome, length};
 ghost use Rattle.dt_base.specs.declared.fault.Code.TheVariants.{E16};
-ghost use Rattle.dt_world.specs.Causes.{Rose};
 ghost use Rattle.session_model.specs.Value.{file_bytes, file_table, records_given};
 ghost use Rattle.session_model.specs.World.{look};
 ghost use Rattle.run_model.specs.Csv.{read_csv};
-ghost use Rattle.stmt_value.specs.Answers.{Gives, IsStop, Blames};
+ghost use Rattle.stmt_value.specs.Answers.{Gives, IsStop};
 ghost use Rattle.arg_bind.specs.Answers.{AnswersAs, IsOwn};
 ghost use Rattle.stmt_value.specs.Fails.{IsFileStop};
-ghost use Rattle.stmt_value.specs.Made.{file_given};
+ghost use Rattle.stmt_value.specs.Reads.{OnlyReads, files_seen};
+ghost use Rattle.stmt_value.specs.Values.{plain_given, IsValueIn};
+ghost use Rattle.table_heap.specs.Seen.{HeapSeen};
 
-use crate::fail::{ValueFail, refusal};
+use crate::fail::{ValueFail, refusal, unread};
+use crate::given::{Given, Value};
 use arg_bind::{EvalFail, stop, stop_number};
 use csv_edge::{CsvFail, read_table};
 use dt_base::limits::{MAX_COLUMNS, MAX_FILE_BYTES};
-use dt_base::{Code, Fault, Steps, Text, Warns};
-use dt_table::Table;
+use dt_base::{Code, Fault, Steps, Text};
 use dt_world::{Files, ReadFail};
 use std::alloc::Global;
 use std::sync::ledger::Ledger;
@@ -38,13 +39,7 @@ fn too_long(alloc: Global, name: &str) -> ValueFail
 fn read_file<F: Files>(alloc: Global, files: &mut F, name: &str) -> Result<Vec<u8>, ValueFail>
     ensures told { IsSome (F.held files.old) → Gives (λ v. v.items) (file_bytes MAX_FILE_BYTES name.now (look (F.held files.old) name.now)) result }
     ensures short { IfOk result (λ v. length v.items ≤ MAX_FILE_BYTES) }
-    ensures held { F.held files.new ≡ F.held files.old }
-    ensures failed { IsErrOf result ValueFail.ReadFault → Rose (F.read_faults files.old) (F.read_faults files.new) }
-    ensures read_faults { F.read_faults files.old ≤ F.read_faults files.new }
-    ensures misses { F.misses files.old ≤ F.misses files.new }
-    ensures longs { F.longs files.old ≤ F.longs files.new }
-    ensures write_faults { F.write_faults files.new ≡ F.write_faults files.old }
-    ensures cause { IfErr result (Blames (F.held files.old) (Rose (F.misses files.old) (F.misses files.new)) (Rose (F.longs files.old) (F.longs files.new))) }
+    ensures files { OnlyReads (files_seen F.held F.read_faults F.misses F.longs F.write_faults) files.old files.new result }
 {
     match files.read(name, MAX_FILE_BYTES) {
         Ok(bytes) => Ok(bytes),
@@ -69,41 +64,42 @@ fn record_stop(alloc: Global, fail: CsvFail) -> EvalFail
     }
 }
 
-/// The table of a file's bytes, and its warnings.
-fn records<L: Ledger>(
+/// The table of a file's bytes, with its warnings.
+fn records<'a, L: Ledger>(
     alloc: Global,
     bytes: &[u8],
     steps: &mut Steps<L>,
-) -> Result<(Table, Warns), EvalFail>
+) -> Result<Given<'a>, EvalFail>
     requires { length bytes.now ≤ MAX_FILE_BYTES }
-    ensures answer { AnswersAs file_given (records_given (read_csv bytes.now)) result }
+    ensures answer { AnswersAs plain_given (records_given (read_csv bytes.now)) result }
+    ensures live { (h : HeapSeen) → IfOk result (λ g. IsValueIn h g.value) }
     ensures own { IfErr result IsOwn }
 {
     match read_table(alloc, bytes, steps) {
-        Ok(table) => Ok(table),
+        Ok((table, warns)) => Ok(Given {
+            value: Value::New(table),
+            warns,
+        }),
         Err(fail) => Err(record_stop(alloc, fail)),
     }
 }
 
-/// The table of a file, and its warnings.
+/// The table of a file, with its warnings.
 ///
 /// E15 where there is no such file, E16 where it is longer than 67,108,864 bytes, and then the first
 /// fault of its records. dtq's own rule, docs/LANGUAGE.md, section "CSV files".
-pub fn file_table<F: Files, L: Ledger>(
+pub fn file_table<'a, F: Files, L: Ledger>(
     alloc: Global,
     files: &mut F,
     name: &str,
     steps: &mut Steps<L>,
-) -> Result<(Table, Warns), ValueFail>
-    ensures told { IsSome (F.held files.old) → Gives file_given (file_table (look (F.held files.old)) name.now) result }
-    ensures held { F.held files.new ≡ F.held files.old }
-    ensures failed { IsErrOf result ValueFail.ReadFault → Rose (F.read_faults files.old) (F.read_faults files.new) }
-    ensures read_faults { F.read_faults files.old ≤ F.read_faults files.new }
-    ensures misses { F.misses files.old ≤ F.misses files.new }
-    ensures longs { F.longs files.old ≤ F.longs files.new }
-    ensures write_faults { F.write_faults files.new ≡ F.write_faults files.old }
-    ensures cause { IfErr result (Blames (F.held files.old) (Rose (F.misses files.old) (F.misses files.new)) (Rose (F.longs files.old) (F.longs files.new))) }
+) -> Result<Given<'a>, ValueFail>
+    ensures told { IsSome (F.held files.old) → Gives plain_given (file_table (look (F.held files.old)) name.now) result }
+    ensures live { (h : HeapSeen) → IfOk result (λ g. IsValueIn h g.value) }
+    ensures files { OnlyReads (files_seen F.held F.read_faults F.misses F.longs F.write_faults) files.old files.new result }
 {
-    let bytes = read_file(alloc, files, name)?;
-    Ok(records(alloc, &bytes, steps)?)
+    match read_file(alloc, files, name) {
+        Ok(bytes) => unread(records(alloc, &bytes, steps)),
+        Err(fail) => Err(fail),
+    }
 }

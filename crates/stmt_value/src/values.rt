@@ -1,21 +1,25 @@
-ghost use Rattle.std.specs.Prelude.{◌≡◌, ◌≤◌, IfOk, IfErr, IsSome, IsErrOf, Some, map};
+ghost use Rattle.std.specs.Prelude.{◌≡◌, ◌≤◌, IfOk, IfErr, IsSome, IsErrOf, Ok, Some, map};
 ghost use Rattle.std.specs.FinMap as finite;
 ghost use Rattle.arg_bind.specs.Answers.{AnswersAs, IsOwn};
 ghost use Rattle.dt_world.specs.Causes.{Rose};
 ghost use Rattle.session_model.specs.Binding.{bound};
 ghost use Rattle.session_model.specs.Calls.{argument, named_file, copy_of, table_call};
 ghost use Rattle.session_model.specs.Expression.{names_in};
-ghost use Rattle.session_model.specs.Meaning.{meaning, arg_meaning, bracket_meaning};
+ghost use Rattle.session_model.specs.Meaning.{meaning, arg_meaning, bracket_meaning, vector_gives};
 ghost use Rattle.session_model.specs.Query.{chained};
 ghost use Rattle.vector_model.specs.Then.{then_do};
 ghost use Rattle.dt_table.specs.Plain.{plain};
+ghost use Rattle.func_table.specs.Calls.{func_of, kind_of};
 ghost use Rattle.session_model.specs.Value.{bound_value, wanted_table, copied};
+ghost use Rattle.session_model.specs.Value as model;
 ghost use Rattle.stmt_value.specs.Answers.{Gives, Blames};
+ghost use Rattle.stmt_value.specs.Calls.{call_or, known_call};
+ghost use Rattle.stmt_value.specs.Reads.{OnlyReads, files_seen};
 ghost use Rattle.stmt_value.specs.Values.{plain_value, plain_given, scene, IsValueIn};
 ghost use Rattle.table_heap.specs.State.{state_of};
 
 use crate::chains::{called, chained};
-use crate::fail::{ValueFail, refusal, refusal_unbuilt};
+use crate::fail::{ValueFail, unread};
 use crate::files::file_table;
 use crate::given::{Given, Value};
 use crate::vectors::{table_value, vector_value};
@@ -105,7 +109,6 @@ fn copied<L: Ledger>(
 /// before a bracket is a table, else E20 with its name or `[`, and E04 for NULL; an argument that a
 /// bracket does not have is E19 with its name. Anything else is a vector, whose type comes before its
 /// value. dtq's own rule, docs/LANGUAGE.md, sections "Statements" and "Brackets".
-#[cycle(value)]
 pub fn value<'a, F: Files, L: Ledger>(
     alloc: Global,
     e: &Expr,
@@ -123,18 +126,35 @@ pub fn value<'a, F: Files, L: Ledger>(
     ensures write_faults { F.write_faults files.new ≡ F.write_faults files.old }
     ensures cause { IfErr result (Blames (F.held files.old) (Rose (F.misses files.old) (F.misses files.new)) (Rose (F.longs files.old) (F.longs files.new))) }
 {
+    expression(alloc, e, heap, files, steps)
+}
+
+/// What an expression gives. Of a call, a query and parentheses a part may read a file.
+#[cycle(value)]
+fn expression<'a, F: Files, L: Ledger>(
+    alloc: Global,
+    e: &Expr,
+    heap: &'a Heap,
+    files: &mut F,
+    steps: &mut Steps<L>,
+) -> Result<Given<'a>, ValueFail>
+    ensures told { IsSome (F.held files.old) → Gives plain_given ((meaning e.now).gives (scene (F.held files.old) heap.now)) result }
+    ensures live { IfOk result (λ g. IsValueIn heap.now g.value) }
+    ensures files { OnlyReads (files_seen F.held F.read_faults F.misses F.longs F.write_faults) files.old files.new result }
+{
     match e {
-        Expr::Null => Ok(Given::quiet(Value::Null)),
-        Expr::Name { name } => Ok(bound(alloc, name.as_str(), heap)?),
-        Expr::Paren { inner } => value(alloc, inner.get(), heap, files, steps),
-        Expr::Call { name, args } => match func_named(name.as_str()) {
-            None => Ok(vector_value(alloc, e, heap, steps)?),
-            Some(f) => match kind_of(f) {
-                Kind::Vector | Kind::Description => Ok(vector_value(alloc, e, heap, steps)?),
-                Kind::Command => Err(refusal(alloc, Code::E19, func_word(f))),
-                Kind::Table => bound_call(alloc, f, args.as_slice(), heap, files, steps),
-            },
-        },
+        Expr::Null => unread(Ok(Given::quiet(Value::Null))),
+        Expr::Name { name } => unread(bound(alloc, name.as_str(), heap)),
+        Expr::Paren { inner } => expression(alloc, inner.get(), heap, files, steps),
+        Expr::Call { name, args } => call(
+            alloc,
+            name.as_str(),
+            args.as_slice(),
+            e,
+            heap,
+            files,
+            steps,
+        ),
         Expr::Query { head, brackets } => query(
             alloc,
             head.get(),
@@ -144,11 +164,54 @@ pub fn value<'a, F: Files, L: Ledger>(
             steps,
         ),
         Expr::Lit { .. } | Expr::Infinite | Expr::Formula { .. } => {
-            Ok(vector_value(alloc, e, heap, steps)?)
+            unread(vector_value(alloc, e, heap, steps))
         }
         Expr::Minus { .. } | Expr::Not { .. } | Expr::Chain { .. } => {
-            Ok(vector_value(alloc, e, heap, steps)?)
+            unread(vector_value(alloc, e, heap, steps))
         }
+    }
+}
+
+/// What the call e of this name with these arguments gives.
+#[cycle(value)]
+fn call<'a, F: Files, L: Ledger>(
+    alloc: Global,
+    name: &str,
+    args: &[Arg],
+    e: &Expr,
+    heap: &'a Heap,
+    files: &mut F,
+    steps: &mut Steps<L>,
+) -> Result<Given<'a>, ValueFail>
+    ensures told { IsSome (F.held files.old) → Gives plain_given (call_or (func_of name.now) (map arg_meaning args.now) (vector_gives (meaning e.now).check (meaning e.now).value) (scene (F.held files.old) heap.now)) result }
+    ensures live { IfOk result (λ g. IsValueIn heap.now g.value) }
+    ensures files { OnlyReads (files_seen F.held F.read_faults F.misses F.longs F.write_faults) files.old files.new result }
+{
+    match func_named(name) {
+        None => unread(vector_value(alloc, e, heap, steps)),
+        Some(f) => known_call(alloc, f, args, e, heap, files, steps),
+    }
+}
+
+/// The same of a function: a command is E19 with its name.
+#[cycle(value)]
+fn known_call<'a, F: Files, L: Ledger>(
+    alloc: Global,
+    f: Func,
+    args: &[Arg],
+    e: &Expr,
+    heap: &'a Heap,
+    files: &mut F,
+    steps: &mut Steps<L>,
+) -> Result<Given<'a>, ValueFail>
+    ensures told { IsSome (F.held files.old) → Gives plain_given (known_call (kind_of f) f (map arg_meaning args.now) (vector_gives (meaning e.now).check (meaning e.now).value) (scene (F.held files.old) heap.now)) result }
+    ensures live { IfOk result (λ g. IsValueIn heap.now g.value) }
+    ensures files { OnlyReads (files_seen F.held F.read_faults F.misses F.longs F.write_faults) files.old files.new result }
+{
+    match kind_of(f) {
+        Kind::Vector | Kind::Description => unread(vector_value(alloc, e, heap, steps)),
+        Kind::Command => unread(Err(stop(alloc, Code::E19, func_word(f)))),
+        Kind::Table => bound_call(alloc, f, args, heap, files, steps),
     }
 }
 
@@ -164,16 +227,12 @@ fn query<'a, F: Files, L: Ledger>(
 ) -> Result<Given<'a>, ValueFail>
     ensures told { IsSome (F.held files.old) → Gives plain_given (then_do ((meaning head.now).gives (scene (F.held files.old) heap.now)) (λ g. chained (state_of heap.now) (meaning head.now).called g (map bracket_meaning brackets.now))) result }
     ensures live { IfOk result (λ g. IsValueIn heap.now g.value) }
-    ensures held { F.held files.new ≡ F.held files.old }
-    ensures failed { IsErrOf result ValueFail.ReadFault → Rose (F.read_faults files.old) (F.read_faults files.new) }
-    ensures read_faults { F.read_faults files.old ≤ F.read_faults files.new }
-    ensures misses { F.misses files.old ≤ F.misses files.new }
-    ensures longs { F.longs files.old ≤ F.longs files.new }
-    ensures write_faults { F.write_faults files.new ≡ F.write_faults files.old }
-    ensures cause { IfErr result (Blames (F.held files.old) (Rose (F.misses files.old) (F.misses files.new)) (Rose (F.longs files.old) (F.longs files.new))) }
+    ensures files { OnlyReads (files_seen F.held F.read_faults F.misses F.longs F.write_faults) files.old files.new result }
 {
-    let given = value(alloc, head, heap, files, steps)?;
-    Ok(chained(alloc, called(head), given, brackets, heap, steps)?)
+    match expression(alloc, head, heap, files, steps) {
+        Ok(given) => unread(chained(alloc, called(head), given, brackets, heap, steps)),
+        Err(fail) => Err(fail),
+    }
 }
 
 /// What the call of a table function gives.
@@ -188,16 +247,12 @@ fn bound_call<'a, F: Files, L: Ledger>(
 ) -> Result<Given<'a>, ValueFail>
     ensures told { IsSome (F.held files.old) → Gives plain_given (then_do (bound f (names_in (map arg_meaning args.now))) (λ _. table_call f (map arg_meaning args.now) (scene (F.held files.old) heap.now))) result }
     ensures live { IfOk result (λ g. IsValueIn heap.now g.value) }
-    ensures held { F.held files.new ≡ F.held files.old }
-    ensures failed { IsErrOf result ValueFail.ReadFault → Rose (F.read_faults files.old) (F.read_faults files.new) }
-    ensures read_faults { F.read_faults files.old ≤ F.read_faults files.new }
-    ensures misses { F.misses files.old ≤ F.misses files.new }
-    ensures longs { F.longs files.old ≤ F.longs files.new }
-    ensures write_faults { F.write_faults files.new ≡ F.write_faults files.old }
-    ensures cause { IfErr result (Blames (F.held files.old) (Rose (F.misses files.old) (F.misses files.new)) (Rose (F.longs files.old) (F.longs files.new))) }
+    ensures files { OnlyReads (files_seen F.held F.read_faults F.misses F.longs F.write_faults) files.old files.new result }
 {
-    bind(alloc, f, args)?;
-    table_call(alloc, f, args, heap, files, steps)
+    match bind(alloc, f, args) {
+        Ok(()) => table_call(alloc, f, args, heap, files, steps),
+        Err(fail) => unread(Err(fail)),
+    }
 }
 
 /// What the call of a table function gives, once its arguments are bound.
@@ -212,20 +267,22 @@ fn table_call<'a, F: Files, L: Ledger>(
 ) -> Result<Given<'a>, ValueFail>
     ensures told { IsSome (F.held files.old) → Gives plain_given (table_call f (map arg_meaning args.now) (scene (F.held files.old) heap.now)) result }
     ensures live { IfOk result (λ g. IsValueIn heap.now g.value) }
-    ensures held { F.held files.new ≡ F.held files.old }
-    ensures failed { IsErrOf result ValueFail.ReadFault → Rose (F.read_faults files.old) (F.read_faults files.new) }
-    ensures read_faults { F.read_faults files.old ≤ F.read_faults files.new }
-    ensures misses { F.misses files.old ≤ F.misses files.new }
-    ensures longs { F.longs files.old ≤ F.longs files.new }
-    ensures write_faults { F.write_faults files.new ≡ F.write_faults files.old }
-    ensures cause { IfErr result (Blames (F.held files.old) (Rose (F.misses files.old) (F.misses files.new)) (Rose (F.longs files.old) (F.longs files.new))) }
+    ensures files { OnlyReads (files_seen F.held F.read_faults F.misses F.longs F.write_faults) files.old files.new result }
 {
     match f {
-        Func::DataTable => Ok(table_value(alloc, args, heap, steps)?),
+        Func::DataTable => unread(table_value(alloc, args, heap, steps)),
         Func::Fread => file_value(alloc, args, heap, files, steps),
         Func::Copy => copy_value(alloc, args, heap, files, steps),
-        _ => Err(refusal_unbuilt(alloc)),
+        _ => unread(Err(stop_unbuilt(alloc))),
     }
+}
+
+/// The name of the file that `fread` is given.
+fn file_argument(alloc: Global, args: &[Arg]) -> Result<&str, EvalFail>
+    ensures answer { AnswersAs (λ s. s.now) (then_do (argument (map arg_meaning args.now) 0 Formal.File) (λ a. named_file a.form)) result }
+    ensures own { IfErr result IsOwn }
+{
+    named_file(alloc, argument(alloc, args, 0, Formal::File)?)
 }
 
 /// What `fread` gives: the table of the file that a text literal names.
@@ -238,20 +295,12 @@ fn file_value<'a, F: Files, L: Ledger>(
 ) -> Result<Given<'a>, ValueFail>
     ensures told { IsSome (F.held files.old) → Gives plain_given (table_call Func.Fread (map arg_meaning args.now) (scene (F.held files.old) heap.now)) result }
     ensures live { IfOk result (λ g. IsValueIn heap.now g.value) }
-    ensures held { F.held files.new ≡ F.held files.old }
-    ensures failed { IsErrOf result ValueFail.ReadFault → Rose (F.read_faults files.old) (F.read_faults files.new) }
-    ensures read_faults { F.read_faults files.old ≤ F.read_faults files.new }
-    ensures misses { F.misses files.old ≤ F.misses files.new }
-    ensures longs { F.longs files.old ≤ F.longs files.new }
-    ensures write_faults { F.write_faults files.new ≡ F.write_faults files.old }
-    ensures cause { IfErr result (Blames (F.held files.old) (Rose (F.misses files.old) (F.misses files.new)) (Rose (F.longs files.old) (F.longs files.new))) }
+    ensures files { OnlyReads (files_seen F.held F.read_faults F.misses F.longs F.write_faults) files.old files.new result }
 {
-    let name = named_file(alloc, argument(alloc, args, 0, Formal::File)?)?;
-    let (table, warns) = file_table(alloc, files, name, steps)?;
-    Ok(Given {
-        value: Value::New(table),
-        warns,
-    })
+    match file_argument(alloc, args) {
+        Ok(name) => file_table(alloc, files, name, steps),
+        Err(fail) => unread(Err(fail)),
+    }
 }
 
 /// What `copy` gives: the table of its argument once more.
@@ -265,13 +314,7 @@ fn copy_value<'a, F: Files, L: Ledger>(
 ) -> Result<Given<'a>, ValueFail>
     ensures told { IsSome (F.held files.old) → Gives plain_given (table_call Func.Copy (map arg_meaning args.now) (scene (F.held files.old) heap.now)) result }
     ensures live { IfOk result (λ g. IsValueIn heap.now g.value) }
-    ensures held { F.held files.new ≡ F.held files.old }
-    ensures failed { IsErrOf result ValueFail.ReadFault → Rose (F.read_faults files.old) (F.read_faults files.new) }
-    ensures read_faults { F.read_faults files.old ≤ F.read_faults files.new }
-    ensures misses { F.misses files.old ≤ F.misses files.new }
-    ensures longs { F.longs files.old ≤ F.longs files.new }
-    ensures write_faults { F.write_faults files.new ≡ F.write_faults files.old }
-    ensures cause { IfErr result (Blames (F.held files.old) (Rose (F.misses files.old) (F.misses files.new)) (Rose (F.longs files.old) (F.longs files.new))) }
+    ensures files { OnlyReads (files_seen F.held F.read_faults F.misses F.longs F.write_faults) files.old files.new result }
 {
     match place(args, 0, Formal::Table) {
         Some(i) => match args.get(i) {
@@ -279,10 +322,29 @@ fn copy_value<'a, F: Files, L: Ledger>(
                 is_meant(arg);
                 copy_of(alloc, &arg.value, heap, files, steps)
             }
-            None => Err(refusal_unbuilt(alloc)),
+            None => unread(Err(stop_unbuilt(alloc))),
         },
-        None => Err(refusal_unbuilt(alloc)),
+        None => unread(Err(stop_unbuilt(alloc))),
     }
+}
+
+/// The table of a value once more, with the value's warnings.
+fn copied_value<'a, L: Ledger>(
+    alloc: Global,
+    given: &Given<'_>,
+    heap: &Heap,
+    steps: &mut Steps<L>,
+) -> Result<Given<'a>, EvalFail>
+    requires { IsValueIn heap.now given.now.value }
+    ensures answer { AnswersAs plain_given (then_do (wanted_table (state_of heap.now) (plain_value given.now.value)) (λ t. Ok (record { value = model.New (copied t); warns = given.now.warns }))) result }
+    ensures live { IfOk result (λ g. IsValueIn heap.now g.value) }
+    ensures own { IfErr result IsOwn }
+{
+    let table = copied(alloc, wanted_table(alloc, &given.value, heap)?, steps)?;
+    Ok(Given {
+        value: Value::New(table),
+        warns: given.warns,
+    })
 }
 
 /// What `copy` of an expression gives.
@@ -296,20 +358,12 @@ fn copy_of<'a, F: Files, L: Ledger>(
 ) -> Result<Given<'a>, ValueFail>
     ensures told { IsSome (F.held files.old) → Gives plain_given (copy_of (meaning e.now) (scene (F.held files.old) heap.now)) result }
     ensures live { IfOk result (λ g. IsValueIn heap.now g.value) }
-    ensures held { F.held files.new ≡ F.held files.old }
-    ensures failed { IsErrOf result ValueFail.ReadFault → Rose (F.read_faults files.old) (F.read_faults files.new) }
-    ensures read_faults { F.read_faults files.old ≤ F.read_faults files.new }
-    ensures misses { F.misses files.old ≤ F.misses files.new }
-    ensures longs { F.longs files.old ≤ F.longs files.new }
-    ensures write_faults { F.write_faults files.new ≡ F.write_faults files.old }
-    ensures cause { IfErr result (Blames (F.held files.old) (Rose (F.misses files.old) (F.misses files.new)) (Rose (F.longs files.old) (F.longs files.new))) }
+    ensures files { OnlyReads (files_seen F.held F.read_faults F.misses F.longs F.write_faults) files.old files.new result }
 {
-    let given = value(alloc, e, heap, files, steps)?;
-    let table = copied(alloc, wanted_table(alloc, &given.value, heap)?, steps)?;
-    Ok(Given {
-        value: Value::New(table),
-        warns: given.warns,
-    })
+    match expression(alloc, e, heap, files, steps) {
+        Ok(given) => unread(copied_value(alloc, &given, heap, steps)),
+        Err(fail) => Err(fail),
+    }
 }
 
 /// The name of a file, which is a text literal; anything else is E19 with `file`.
