@@ -3,7 +3,7 @@ use Rattle.arg_bind.specs.Answers.{AnswersAs}
 use Rattle.dt_base.specs.declared.cell.ColType.{ColType}
 use Rattle.expr_eval.specs.Scope.{env_of}
 use Rattle.expr_eval.proofs.NextOne.{each_at}
-use Rattle.expr_eval.proofs.Ends.{argument_means, no_memory, each_stopped, each_all, formals_all}
+use Rattle.expr_eval.proofs.Ends.{argument_means, no_memory, each_stopped, each_all, formal_at, formal_stopped, formals_all, free_most}
 use Rattle.expr_eval.proofs.checks.+check.Goals as goal
 use Rattle.func_table.specs.declared.formal.Formal.{Formal}
 use Rattle.func_table.specs.declared.slot.Slot.{Slot}
@@ -49,3 +49,17 @@ check_formals-returns-clause-answer g t c =
 
 pub check_formals-loop-p-init : goal.check_formals-loop-p-init
 check_formals-loop-p-init g t c = grind (arith, in_order)
+
+pub check_formals-loop-p-preserved : goal.check_formals-loop-p-preserved
+check_formals-loop-p-preserved g t c = (
+  free_most (names_in (map arg_meaning c.args.args.now)) _ c.loop-p.before c.loop-p.p-index c.next-before.result c.loop-p.invariant.0 c.next-before.ensures,
+  formal_at (names_in (map arg_meaning c.args.args.now)) (λ (x : Formal × Option ℕ). slot_at (λ (m : Meaning). m.check (env_of g.V.Vars.bound c.args.s.now)) x.0 (arg_at (map arg_meaning c.args.args.now) x.1)) _
+      c.loop-p.done.items c.args.ps.now c.loop-p.p-index c.loop-p.before c.add.new.list.items _ c.in_ok-slot.slot c.next-before.result
+      c.loop-p.invariant.1 c.loop-p-test.true c.in_ok-slot.ensures.answer c.in_ok-add.ensures.ok c.next-before.ensures,
+)
+
+pub check_formals-returns-in_err-slot-clause-answer : goal.check_formals-returns-in_err-slot-clause-answer
+check_formals-returns-in_err-slot-clause-answer g t c =
+    formal_stopped (names_in (map arg_meaning c.args.args.now)) (λ (x : Formal × Option ℕ). slot_at (λ (m : Meaning). m.check (env_of g.V.Vars.bound c.args.s.now)) x.0 (arg_at (map arg_meaning c.args.args.now) x.1)) _
+    c.loop-p.done.items c.args.ps.now c.loop-p.p-index c.loop-p.before (λ (v : Vec (Slot ColType) Global). v.items) (λ (x : Slot ColType). x) _ c.in_err-slot.field-0.0 c.from_residual.result
+    c.loop-p.invariant.1 c.loop-p-test.true c.in_err-slot.ensures.answer c.from_residual.ensures.1

@@ -9,7 +9,7 @@ use Rattle.session_model.specs.Meanings.{ArgMeaning, Meaning}
 use Rattle.vec_funcs.specs.Valued.{valued_of}
 use Rattle.vec_funcs.specs.declared.valued.Valued.{Valued}
 use Rattle.expr_eval.proofs.NextOne.{each_at}
-use Rattle.expr_eval.proofs.Ends.{no_memory, each_stopped, each_all, formals_all}
+use Rattle.expr_eval.proofs.Ends.{no_memory, each_stopped, each_all, formal_at, formal_stopped, formals_all, free_most}
 use Rattle.expr_eval.specs.Slots.{slot_of}
 use Rattle.expr_eval.specs.declared.operands.Operand.{Operand}
 use Rattle.expr_eval.proofs.Touched.{costs, literals_joined, literals_next, ones_more}
@@ -100,3 +100,17 @@ eval_call-returns-in_ok-eval_kind-in-Some-clause-touches g t c = grind (arith, c
 
 pub eval_operand-returns-in-Call-clause-touches : goal.eval_operand-returns-in-Call-clause-touches
 eval_operand-returns-in-Call-clause-touches g t c = grind (arith, costs)
+
+pub eval_formals-loop-p-preserved : goal.eval_formals-loop-p-preserved
+eval_formals-loop-p-preserved g t c = (
+  free_most (names_in (map arg_meaning c.args.args.now)) _ c.loop-p.before c.loop-p.p-index c.next-before.result c.loop-p.invariant.0 c.next-before.ensures,
+  formal_at (names_in (map arg_meaning c.args.args.now)) (λ (x : Formal × Option ℕ). slot_at (λ (m : Meaning). m.value (env_of g.V.Vars.bound c.args.s.now)) x.0 (arg_at (map arg_meaning c.args.args.now) x.1)) _
+      (map slot_of c.loop-p.done.items) c.args.ps.now c.loop-p.p-index c.loop-p.before (map slot_of c.add.new.list.items) _ (slot_of c.in_ok-slot.slot) c.next-before.result
+      c.loop-p.invariant.1 c.loop-p-test.true c.in_ok-slot.ensures.answer (ap (map slot_of) c.in_ok-add.ensures.ok ∙ map-append slot_of c.loop-p.done.items (c.in_ok-slot.slot ∷ [])) c.next-before.ensures,
+)
+
+pub eval_formals-returns-in_err-slot-clause-answer : goal.eval_formals-returns-in_err-slot-clause-answer
+eval_formals-returns-in_err-slot-clause-answer g t c =
+    formal_stopped (names_in (map arg_meaning c.args.args.now)) (λ (x : Formal × Option ℕ). slot_at (λ (m : Meaning). m.value (env_of g.V.Vars.bound c.args.s.now)) x.0 (arg_at (map arg_meaning c.args.args.now) x.1)) _
+    (map slot_of c.loop-p.done.items) c.args.ps.now c.loop-p.p-index c.loop-p.before (λ (v : Vec (Slot Operand) Global). map slot_of v.items) slot_of _ c.in_err-slot.field-0.0 c.from_residual.result
+    c.loop-p.invariant.1 c.loop-p-test.true c.in_err-slot.ensures.answer c.from_residual.ensures.1
