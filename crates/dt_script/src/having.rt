@@ -1,4 +1,4 @@
-ghost use Rattle.std.specs.Prelude.{◌≡◌, ◌∷◌, suc, IfOk, Some, None, option_map};
+ghost use Rattle.std.specs.Prelude.{◌≡◌, ◌∷◌, suc, IfOk, Some, option_map};
 ghost use Rattle.run_model.specs.Grammar as grammar;
 ghost use Rattle.run_model.specs.TreeView.{tree_of};
 ghost use Rattle.dt_grammar.specs.Machine as model;
