@@ -1,5 +1,5 @@
 -- A table beside its plain reading: its columns with their names, and chosen rows.
-use Rattle.std.proofs.Common.{◌≡◌, ◌+◌, ◌++◌, ℕ, suc, List, [], ◌∷◌, length, map, All, refl, sym, ap, ◌∙◌, arith}
+use Rattle.std.proofs.Common.{◌≡◌, ◌+◌, ◌++◌, ℕ, List, [], ◌∷◌, length, map, All, refl, sym, ap, ◌∙◌, arith}
 use Rattle.std.specs.List.{range_with_len}
 use Rattle.std.proofs.lemmas.List.{append_assoc, length-append, length-map}
 use Rattle.std.proofs.lemmas.Simd.{map-map}
@@ -7,7 +7,7 @@ use Rattle.std.proofs.lemmas.List.Elements.{All-head, All-tail}
 use Rattle.std.proofs.lemmas.List.FromFn.{fill_by_all}
 use Rattle.dt_base.specs.declared.cell.Cell.{Cell}
 use Rattle.dt_base.specs.declared.cell.Cell.TheVariants as is
-use Rattle.dt_model.specs.Table.{ColumnHead, column_of, heads_of, row_at, rows_of}
+use Rattle.dt_model.specs.Table.{column_of, heads_of, row_at, rows_of}
 use Rattle.dt_model.specs.Vector.{Vector, cell_at, gathered}
 use Rattle.dt_table.proofs.Plain.{plain_names, plain_rows, vectors_count}
 use Rattle.dt_table.specs.Plain.{plain}
