@@ -135,7 +135,11 @@ pub const LATER: [Row; 63] = [
     ),
     ("D[D]", "", "Error E19 at line 3: bad argument 'unbuilt'\n"),
     ("D[(.(1L))]", "", "Error E04 at line 3: wrong type in .\n"),
-    ("D[!(list(1L))]", "", "Error E04 at line 3: wrong type in list\n"),
+    (
+        "D[!(list(1L))]",
+        "",
+        "Error E04 at line 3: wrong type in list\n",
+    ),
     ("D[(!D[1L])]", "", "Error E04 at line 3: wrong type in [\n"),
     ("D[!(!D[1L])]", "", "Error E04 at line 3: wrong type in [\n"),
     ("D[!D]", "", "Error E19 at line 3: bad argument 'unbuilt'\n"),
