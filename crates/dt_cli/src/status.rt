@@ -4,7 +4,7 @@ ghost use Rattle.dt_cli.specs.Steps.{status_for};
 use dt_session::ExecFail;
 
 /// How a run ended.
-#[derive(Clone, Copy, Debug, PartialEq, Eq)]
+#[derive(Clone, Copy, PartialEq, Eq)]
 pub enum Status {
     /// The script ran to its end.
     Done,

@@ -22,7 +22,7 @@ struct Place {
 }
 
 /// How a statement ended.
-#[derive(Clone, Copy, Debug, PartialEq, Eq)]
+#[derive(Clone, Copy, PartialEq, Eq)]
 enum Answer {
     Done,
     Refused(Code),
@@ -30,7 +30,7 @@ enum Answer {
 }
 
 /// How a statement ended, how many tables live then, and how many bytes were put so far.
-#[derive(Clone, Copy, Debug, PartialEq, Eq)]
+#[derive(Clone, Copy, PartialEq, Eq)]
 struct Seen {
     answer: Answer,
     live: usize,

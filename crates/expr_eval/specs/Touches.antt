@@ -7,7 +7,7 @@
 -- A name, a literal and `c` of literals are promised for; nothing else is.
 use Rattle.std.specs.Prelude.{◌≡◌, ◌≤◌, ◌+◌, ◌*◌, ℕ, Bool, true, false, List, length, Option, None, Some, Result, Ok, Err, option_map, if◌then◌else◌}
 use Rattle.std.specs.List.{list_all}
-use Rattle.arg_bind.specs.declared.fail.EvalFail.{EvalFail}
+use Rattle.eval_fail.specs.declared.fail.EvalFail.{EvalFail}
 use Rattle.dt_base.specs.declared.fault.Fault.{Fault}
 use Rattle.dt_model.specs.Vector.{Vector}
 use Rattle.dt_tree.specs.declared.tree.Arg.{Arg}
@@ -23,7 +23,7 @@ use Rattle.expr_model.specs.Surroundings.{Env, name_vector}
 use Rattle.func_table.specs.declared.func.Arity.{Arity}
 use Rattle.func_table.specs.declared.func.Arity.TheVariants.{Unnamed}
 use Rattle.func_table.specs.Calls.{arity_of, func_of}
-use Rattle.vec_funcs.specs.declared.valued.Valued.{Valued}
+use Rattle.valued.specs.declared.column.Valued.{Valued}
 
 abbrev pub is_literal : Expr → Bool
 is_literal (Lit cell kind) = true

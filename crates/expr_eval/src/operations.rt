@@ -1,5 +1,5 @@
 ghost use Rattle.std.specs.Prelude.{◌≡◌, Ok, codes, IfErr};
-ghost use Rattle.arg_bind.specs.Answers.{AnswersAs, IsOwn};
+ghost use Rattle.eval_fail.specs.Answers.{AnswersAs, IsOwn};
 ghost use Rattle.dt_base.specs.Warns.{both_warns};
 ghost use Rattle.dt_model.specs.Operations.{binary, unary, chosen, contained};
 ghost use Rattle.expr_eval.specs.Refusals.{Refuses};
@@ -7,20 +7,20 @@ ghost use Rattle.expr_eval.specs.Slots.{operand_of};
 ghost use Rattle.expr_model.specs.Functions.{choice_value, conversion, na_test};
 ghost use Rattle.session_model.specs.Expression.{met, signed};
 ghost use Rattle.expr_model.specs.Operators.{op_word, unary_word, op_result, tail_value, sign_value};
-ghost use Rattle.vec_funcs.specs.Valued.{valued_of, vector_of};
+ghost use Rattle.valued.specs.Valued.{valued_of, vector_of};
 
 use crate::kinds::{op_name, unary_name};
 use crate::lent::unwarned;
 use crate::operands::Operand;
 use crate::ranges::range_value;
-use arg_bind::{EvalFail, stop, stop_length};
 use dt_base::{Code, ColType, Op, Steps, UnOp};
 use dt_tree::BinOp;
+use eval_fail::{EvalFail, stop, stop_length};
 use na_ops::{OpFail, binary, choose, coerce, contained, unary};
 use na_vector::Column;
 use std::alloc::Global;
 use std::sync::ledger::Ledger;
-use vec_funcs::Valued;
+use valued::Valued;
 
 /// The fault of an operation that is refused, told with this word.
 fn refused(alloc: Global, word: &str, fail: OpFail) -> EvalFail

@@ -1,5 +1,5 @@
 ghost use Rattle.std.specs.Prelude.{◌≡◌, ◌+◌, ◌<◌, ◌≤◌, true, length, map, option_map, All, IfOk, IfErr};
-ghost use Rattle.arg_bind.specs.Answers.{AnswersAs, IsOwn};
+ghost use Rattle.eval_fail.specs.Answers.{AnswersAs, IsOwn};
 ghost use Rattle.expr_eval.specs.Scope.{env_of, IsScope};
 ghost use Rattle.expr_eval.specs.Slots.{operand_of, slot_of};
 ghost use Rattle.expr_eval.specs.Touches.{is_literal, is_literal_argument, are_literals, joined_cells, call_cells, cells_meant, allowance, Within, IsMadeCell, IsOneCell, still_touched};
@@ -8,7 +8,7 @@ ghost use Rattle.session_model.specs.Meaning.{meaning, arg_meaning, tail_meaning
 ghost use Rattle.func_table.specs.Calls.{arity_of, func_of, is_flag, kind_of};
 ghost use Rattle.session_model.specs.Binding.{places, place_of};
 ghost use Rattle.vector_model.specs.Then.{then_do};
-ghost use Rattle.vec_funcs.specs.Valued.{valued_of};
+ghost use Rattle.valued.specs.Valued.{valued_of};
 
 use crate::applied::{applied, combined};
 use crate::arguments::{add, flag_given, later_call, table_given};
@@ -18,15 +18,16 @@ use crate::operands::{Operand, owned};
 use crate::operations::{met, signed};
 use crate::tables::description;
 use crate::{Scope, Vars};
-use arg_bind::{EvalFail, bind, next, place, stop, stop_unbuilt};
+use arg_bind::{bind, next, place};
 use dt_base::{Code, Steps, UnOp};
 use dt_tree::{Arg, Expr, Tail};
+use eval_fail::{EvalFail, stop, stop_unbuilt};
 use func_table::{
     Arity, Formal, Func, Kind, Slot, arity_of, formals, func_named, func_word, is_flag, kind_of,
 };
 use std::alloc::Global;
 use std::sync::ledger::Ledger;
-use vec_funcs::Valued;
+use valued::Valued;
 
 /// The value of an expression in its surroundings with its warnings, or its first fault.
 ///

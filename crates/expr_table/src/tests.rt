@@ -2,17 +2,17 @@ ghost use Rattle.std.specs.Prelude.{◌≡◌, ◌<◌};
 ghost use Rattle.expr_eval.specs.Scope.{IsScope};
 
 use crate::surroundings::{Names, parts, scope};
-use arg_bind::EvalFail;
 use dt_base::{ColType, Steps};
 use dt_print::{fault_line, vector_text, warn_lines};
 use dt_script::{Expr, parse};
+use eval_fail::EvalFail;
 use expr_eval::{Scope, check, eval};
 use std::alloc::{AllocError, Global};
 use std::marker::Brand;
 use std::process::Abort;
 use std::sync::ledger::{Blank, Ledger};
 use std::test::Fail;
-use vec_funcs::Valued;
+use valued::Valued;
 
 mod functions;
 mod operators;

@@ -2,15 +2,15 @@ ghost use Rattle.std.specs.Prelude.{◌≡◌, ◌<◌, ◌≤◌, IfOk, length}
 ghost use Rattle.dt_base.specs.declared.limits.TheConstants.{MAX_ROWS};
 
 use super::*;
-use arg_bind::EvalFail;
 use dt_base::{Code, Steps, Text, Warns};
+use eval_fail::EvalFail;
 use na_vector::Column;
 use std::alloc::{AllocError, Global};
 use std::marker::Brand;
 use std::process::Abort;
 use std::sync::ledger::{Blank, Ledger};
 use std::test::Fail;
-use vec_funcs::Valued;
+use valued::Valued;
 
 const NA: i64 = i64::MIN;
 

@@ -22,10 +22,10 @@ use Rattle.func_table.specs.declared.special.Special.{Special}
 use Rattle.func_table.specs.Special.{special_of, is_bracket_argument}
 use Rattle.vector_model.specs.Functions.{Valued}
 use Rattle.vector_model.specs.Then.{then_do}
-use Rattle.expr_model.specs.Rows.{Places, all_rows, chosen}
+use Rattle.row_model.specs.Rows.{Places, all_rows, chosen}
 use Rattle.expr_model.specs.Surroundings.{Env, Var, Vars, columns_in, columns_at, in_rows}
 use Rattle.expr_model.specs.Surroundings as bound
-use Rattle.expr_model.specs.Unbuilt.{unbuilt}
+use Rattle.vector_model.specs.Faults.{unbuilt}
 use Rattle.session_model.specs.Binding.{word_in}
 use Rattle.session_model.specs.Columns.{gives_columns}
 use Rattle.session_model.specs.Expression.{checked_value, quiet}

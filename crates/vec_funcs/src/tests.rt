@@ -2,8 +2,8 @@ ghost use Rattle.std.specs.Prelude.{◌≡◌, ◌<◌, IfOk};
 ghost use Rattle.dt_base.specs.Cell.{IsOfType};
 
 use super::*;
-use arg_bind::EvalFail;
 use dt_base::{Cell, CellRef, ColType, Steps, Text};
+use eval_fail::EvalFail;
 use na_vector::Column;
 use std::alloc::{AllocError, Global};
 use std::marker::Brand;
