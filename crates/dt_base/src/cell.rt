@@ -5,7 +5,7 @@ use crate::Text;
 use std::alloc::{AllocError, Global};
 
 /// The type of a column, lowest first: the common type of two is the higher one.
-#[derive(Clone, Copy, PartialEq, Eq, PartialOrd, Ord)]
+#[derive(Clone, Copy, PartialEq, Eq)]
 pub enum ColType {
     Lgl,
     Int,

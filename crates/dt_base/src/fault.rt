@@ -5,7 +5,7 @@ use crate::Text;
 use std::alloc::{AllocError, Global};
 
 /// What a fault is about. The texts of the codes stand in the table of faults.
-#[derive(Clone, Copy, PartialEq, Eq)]
+#[derive(Clone, Copy)]
 pub enum Code {
     /// Syntax.
     E01,

@@ -20,7 +20,7 @@ pub struct Answer {
 }
 
 /// The two options of a session.
-#[derive(Clone, Copy, PartialEq, Eq)]
+#[derive(Clone, Copy)]
 pub struct Options {
     /// `datatable.auto.index`: a query may leave an index.
     pub auto_index: bool,

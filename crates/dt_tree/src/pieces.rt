@@ -1,7 +1,7 @@
 use crate::Token;
 
 /// A class of bytes: what a piece of a script goes on with.
-#[derive(Clone, Copy, PartialEq, Eq)]
+#[derive(Clone, Copy)]
 pub enum Class {
     /// A letter, a digit, `.` or `_`: what a name goes on with.
     Name,
@@ -15,7 +15,7 @@ pub enum Class {
 }
 
 /// What begins with a byte.
-#[derive(Clone, Copy, PartialEq, Eq)]
+#[derive(Clone, Copy)]
 pub enum Start {
     /// A name or a literal.
     Word,

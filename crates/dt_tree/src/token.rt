@@ -1,7 +1,7 @@
 use dt_base::Text;
 
 /// A word that is a value.
-#[derive(Clone, Copy, PartialEq, Eq)]
+#[derive(Clone, Copy)]
 pub enum Literal {
     True,
     False,
@@ -16,7 +16,7 @@ pub enum Literal {
 }
 
 /// A symbol.
-#[derive(Clone, Copy, PartialEq, Eq)]
+#[derive(Clone, Copy)]
 pub enum Sign {
     /// `%in%`
     In,

@@ -2,7 +2,7 @@ use dt_base::{Cell, ColType, Op, Text};
 use sqlite_items::{Boxed, Items};
 
 /// A two-sided operator.
-#[derive(Clone, Copy, PartialEq, Eq)]
+#[derive(Clone, Copy)]
 pub enum BinOp {
     Arith(Op),
     /// `%in%`

@@ -57,7 +57,10 @@ by_truth n cells =
 abbrev pub named_row : ℕ → Cell → Places
 named_row n (is.Int (pos zero)) = []
 named_row n (is.Int (pos (suc p))) = (if nat_lt p n then Some p else None) ∷ []
-named_row n _ = None ∷ []
+named_row n (is.Int (negsuc k)) = None ∷ []
+named_row n (is.Lgl b) = None ∷ []
+named_row n (is.Text t) = None ∷ []
+named_row n is.Na = None ∷ []
 
 -- the rows that the cells name, in their order
 abbrev pub named_rows : ℕ → List Cell → Places
