@@ -1,15 +1,9 @@
-//! The program over files and sinks in memory, by tables of runs.
+//! The program over files and sinks in memory, where no script of the files of cases gets: a call
+//! that fails, a script that is too long, and want of memory.
 ghost use Rattle.std.specs.Prelude.{◌≡◌, ◌<◌};
-
-mod failing;
-mod tables;
 
 use crate::run::run;
 use crate::status::Status;
-use crate::tests::failing::{CSV, FAILURES, Failing, NOTHING, SCRIPT};
-use crate::tests::tables::{
-    BAD_ARGUMENTS, CHECKED, PRINTED, STOPPED, UNKNOWN_NAMES, WORDS, WRITTEN,
-};
 use dt_base::{Steps, Text};
 use dt_world::{Files, MemFiles, MemSink};
 use std::alloc::{AllocError, Global};
@@ -17,6 +11,49 @@ use std::marker::Brand;
 use std::process::Abort;
 use std::sync::ledger::{Blank, Ledger};
 use std::test::Fail;
+
+/// The numbers of the reads and writes of files that fail, of the puts on `out`, and of those on
+/// `err`.
+type Failing = (&'static [u64], &'static [u64], &'static [u64]);
+
+const NOTHING: Failing = (&[], &[], &[]);
+
+/// It reads a file with a warning, prints it, writes it, prints it again, and stops.
+const SCRIPT: &str = "x <- fread(\"f.csv\")\nprint(x)\nfwrite(x, \"o.csv\")\nx\ny\n";
+
+const CSV: &str = "a,a\n1,2\n";
+
+/// What stands in `o.csv`.
+const WRITTEN: &str = "a,a.1\n1,2\n";
+
+/// What stands on `out`: half of a table, a table, one and a half, two.
+const HALF: &str = "   a a.1\n";
+
+const ONCE: &str = "   a a.1\n1: 1   2\n";
+
+const MORE: &str = "   a a.1\n1: 1   2\n   a a.1\n";
+
+const TWICE: &str = "   a a.1\n1: 1   2\n   a a.1\n1: 1   2\n";
+
+/// What stands on `err`: half of a warning, a warning, it and half of a fault.
+const HALF_WARNED: &str = "Warning W06 at line 1:";
+
+const WARNED: &str = "Warning W06 at line 1: column names repaired\n";
+
+const CUT: &str = "Warning W06 at line 1: column names repaired\nError E02 at line 5";
+
+/// The calls that fail in a run of the script: its status, what stands on `out` and on `err`, and
+/// the file that it has written. What stands is what came before the call, and half of what was put
+/// last.
+const FAILURES: [(Failing, Status, &str, &str, &str); 7] = [
+    ((&[1], &[], &[]), Status::ReadFault, "", "", ""),
+    ((&[2], &[], &[]), Status::ReadFault, "", "", ""),
+    ((&[3], &[], &[]), Status::WriteFault, ONCE, WARNED, ""),
+    ((&[], &[1], &[]), Status::WriteFault, HALF, WARNED, ""),
+    ((&[], &[2], &[]), Status::WriteFault, MORE, WARNED, WRITTEN),
+    ((&[], &[], &[1]), Status::WriteFault, "", HALF_WARNED, ""),
+    ((&[], &[], &[2]), Status::WriteFault, TWICE, CUT, WRITTEN),
+];
 
 /// What a run over memory gave.
 #[derive(Drop)]
@@ -35,26 +72,19 @@ fn folder(alloc: Global, script: &[u8], csv: &[u8]) -> Result<Vec<(Text, Vec<u8>
     Ok(files)
 }
 
-fn owned_words(alloc: Global, words: &[&str]) -> Result<Vec<String>, AllocError> {
-    let mut given = Vec::new(alloc);
-    for word in words {
-        given.push(String::from_str(alloc, word)?)?;
-    }
-    Ok(given)
-}
-
-/// A run on these words over these files, in which these calls fail.
-fn run_over<L: Ledger>(
+/// A run of the script over `f.csv`, in which these calls fail.
+fn run_script<L: Ledger>(
     alloc: Global,
-    words: &[&str],
-    files: Vec<(Text, Vec<u8>)>,
+    script: &[u8],
+    csv: &str,
     failing: Failing,
     steps: &mut Steps<L>,
 ) -> Result<Given, AllocError> {
-    let words = owned_words(alloc, words)?;
-    let mut files = MemFiles::new(alloc, files, failing.files.to_vec(alloc)?);
-    let mut out = MemSink::new(alloc, failing.out.to_vec(alloc)?);
-    let mut err = MemSink::new(alloc, failing.err.to_vec(alloc)?);
+    let words = vec![in alloc; String::from_str(alloc, "s.dq")?]?;
+    let files = folder(alloc, script, csv.as_bytes())?;
+    let mut files = MemFiles::new(alloc, files, failing.0.to_vec(alloc)?);
+    let mut out = MemSink::new(alloc, failing.1.to_vec(alloc)?);
+    let mut err = MemSink::new(alloc, failing.2.to_vec(alloc)?);
     let status = run(alloc, &words, &mut files, &mut out, &mut err, steps);
     Ok(Given {
         status,
@@ -62,18 +92,6 @@ fn run_over<L: Ledger>(
         out,
         err,
     })
-}
-
-/// A run of the script over `f.csv`.
-fn run_script<L: Ledger>(
-    alloc: Global,
-    script: &str,
-    csv: &str,
-    failing: Failing,
-    steps: &mut Steps<L>,
-) -> Result<Given, AllocError> {
-    let files = folder(alloc, script.as_bytes(), csv.as_bytes())?;
-    run_over(alloc, &["s.dq"], files, failing, steps)
 }
 
 fn expect<R: Abort>(rt: &R, given: &Given, status: Status, out: &str, err: &str) {
@@ -90,187 +108,22 @@ fn expect_written<R: Abort>(rt: &R, files: &mut MemFiles, bytes: &str) {
     }
 }
 
-fn check_printed<L: Ledger, R: Abort>(
-    rt: &R,
-    alloc: Global,
-    steps: &mut Steps<L>,
-) -> Result<(), Fail> {
-    for (script, csv, out) in PRINTED {
-        let given = run_script(alloc, script, csv, NOTHING, steps)?;
-        expect(rt, &given, Status::Done, out, "");
-    }
-    Ok(())
-}
-
-fn check_stopped<L: Ledger, R: Abort>(
-    rt: &R,
-    alloc: Global,
-    steps: &mut Steps<L>,
-) -> Result<(), Fail> {
-    for (script, csv, out, err) in STOPPED {
-        let given = run_script(alloc, script, csv, NOTHING, steps)?;
-        expect(rt, &given, Status::Stopped, out, err);
-    }
-    Ok(())
-}
-
-fn check_bad_arguments<L: Ledger, R: Abort>(
-    rt: &R,
-    alloc: Global,
-    steps: &mut Steps<L>,
-) -> Result<(), Fail> {
-    for (script, what) in BAD_ARGUMENTS {
-        let err = format!(in alloc; "Error E19 at line 1: bad argument '{what}'\n")?;
-        let given = run_script(alloc, script, "", NOTHING, steps)?;
-        expect(rt, &given, Status::Stopped, "", err.as_str());
-    }
-    Ok(())
-}
-
-fn check_unknown_names<L: Ledger, R: Abort>(
-    rt: &R,
-    alloc: Global,
-    steps: &mut Steps<L>,
-) -> Result<(), Fail> {
-    for (script, what) in UNKNOWN_NAMES {
-        let err = format!(in alloc; "Error E02 at line 1: unknown name '{what}'\n")?;
-        let given = run_script(alloc, script, "", NOTHING, steps)?;
-        expect(rt, &given, Status::Stopped, "", err.as_str());
-    }
-    Ok(())
-}
-
-fn check_written<L: Ledger, R: Abort>(
-    rt: &R,
-    alloc: Global,
-    steps: &mut Steps<L>,
-) -> Result<(), Fail> {
-    for (script, csv, status, out, err, file) in WRITTEN {
-        let mut given = run_script(alloc, script, csv, NOTHING, steps)?;
-        expect(rt, &given, status, out, err);
-        expect_written(rt, &mut given.files, file);
-    }
-    Ok(())
-}
-
 fn check_failures<L: Ledger, R: Abort>(
     rt: &R,
     alloc: Global,
     steps: &mut Steps<L>,
 ) -> Result<(), Fail> {
     for (failing, status, out, err, file) in FAILURES {
-        let mut given = run_script(alloc, SCRIPT, CSV, failing, steps)?;
+        let mut given = run_script(alloc, SCRIPT.as_bytes(), CSV, failing, steps)?;
         expect(rt, &given, status, out, err);
         expect_written(rt, &mut given.files, file);
     }
-    Ok(())
-}
-
-fn check_words<L: Ledger, R: Abort>(
-    rt: &R,
-    alloc: Global,
-    steps: &mut Steps<L>,
-) -> Result<(), Fail> {
-    for (words, status, out, err) in WORDS {
-        let files = folder(alloc, b"1L\n", b"")?;
-        let given = run_over(alloc, words, files, NOTHING, steps)?;
-        expect(rt, &given, status, out, err);
-    }
-    Ok(())
-}
-
-fn check_checked<L: Ledger, R: Abort>(
-    rt: &R,
-    alloc: Global,
-    steps: &mut Steps<L>,
-) -> Result<(), Fail> {
-    for (script, status, err) in CHECKED {
-        let files = folder(alloc, script.as_bytes(), b"")?;
-        let given = run_over(alloc, &["--check", "s.dq"], files, NOTHING, steps)?;
-        expect(rt, &given, status, "", err);
-    }
-    Ok(())
-}
-
-const A_HUNDRED_AND_ONE: &str =
-    "       a\n  1:   1\n  2:   2\n  3:   3\n  4:   4\n  5:   5\n---\n 97:  97\n 98:  98\n 99:  99\n100: 100\n101: 101\n";
-
-/// A column of the numbers from 1 to 101.
-fn numbers(alloc: Global) -> Result<String, AllocError> {
-    let mut csv = String::from_str(alloc, "a\n")?;
-    for n in 1..102u32 {
-        csv.push_str(format!(in alloc; "{n}\n")?.as_str())?;
-    }
-    Ok(csv)
-}
-
-fn check_long_table<L: Ledger, R: Abort>(
-    rt: &R,
-    alloc: Global,
-    steps: &mut Steps<L>,
-) -> Result<(), Fail> {
-    let csv = numbers(alloc)?;
-    let given = run_script(alloc, "fread(\"f.csv\")", csv.as_str(), NOTHING, steps)?;
-    expect(rt, &given, Status::Done, A_HUNDRED_AND_ONE, "");
-    Ok(())
-}
-
-/// A script that is no text, and one that is too long.
-fn check_bytes<L: Ledger, R: Abort>(
-    rt: &R,
-    alloc: Global,
-    steps: &mut Steps<L>,
-) -> Result<(), Fail> {
-    let files = folder(alloc, b"\xff", b"")?;
-    let given = run_over(alloc, &["s.dq"], files, NOTHING, steps)?;
-    expect(
-        rt,
-        &given,
-        Status::Stopped,
-        "",
-        "Error E18 at line 0: not UTF-8 in the script\n",
-    );
-    let script = vec![in alloc; b' '; 1_048_577]?;
-    let files = folder(alloc, &script, b"")?;
-    let given = run_over(alloc, &["--check", "s.dq"], files, NOTHING, steps)?;
-    expect(
-        rt,
-        &given,
-        Status::Stopped,
-        "",
-        "Error E16 at line 0: file 's.dq' is longer than 1048576 bytes\n",
-    );
-    Ok(())
-}
-
-/// The second put on `out` fails half-way.
-fn check_second_put<L: Ledger, R: Abort>(
-    rt: &R,
-    alloc: Global,
-    steps: &mut Steps<L>,
-) -> Result<(), Fail> {
-    let failing = Failing {
-        files: &[],
-        out: &[2],
-        err: &[],
-    };
-    let given = run_script(alloc, "x <- 1L\nx\nx\n", "", failing, steps)?;
+    let given = run_script(alloc, b"x <- 1L\nx\nx\n", "", (&[], &[2], &[]), steps)?;
     expect(rt, &given, Status::WriteFault, "[1] 1\n[1]", "");
     Ok(())
 }
 
-fn check_scripts<L: Ledger, R: Abort>(rt: &R, alloc: Global, blank: Blank) -> Result<(), Fail>
-    requires name { blank.name ≡ L.name }
-    requires parts { blank.parts ≡ L.parts }
-    requires some { 0 < blank.parts }
-{
-    let mut steps = Steps::<L>::new(blank);
-    check_printed(rt, alloc, &mut steps)?;
-    check_stopped(rt, alloc, &mut steps)?;
-    check_bad_arguments(rt, alloc, &mut steps)?;
-    check_unknown_names(rt, alloc, &mut steps)?;
-    check_written(rt, alloc, &mut steps)
-}
+const TOO_LONG: &str = "Error E16 at line 0: file 's.dq' is longer than 1048576 bytes\n";
 
 fn check_surroundings<L: Ledger, R: Abort>(rt: &R, alloc: Global, blank: Blank) -> Result<(), Fail>
     requires name { blank.name ≡ L.name }
@@ -278,21 +131,15 @@ fn check_surroundings<L: Ledger, R: Abort>(rt: &R, alloc: Global, blank: Blank) 
     requires some { 0 < blank.parts }
 {
     let mut steps = Steps::<L>::new(blank);
-    check_words(rt, alloc, &mut steps)?;
-    check_checked(rt, alloc, &mut steps)?;
     check_failures(rt, alloc, &mut steps)?;
-    check_second_put(rt, alloc, &mut steps)?;
-    check_long_table(rt, alloc, &mut steps)?;
-    check_bytes(rt, alloc, &mut steps)
+    let script = vec![in alloc; b' '; 1_048_577]?;
+    let given = run_script(alloc, &script, "", NOTHING, &mut steps)?;
+    expect(rt, &given, Status::Stopped, "", TOO_LONG);
+    Ok(())
 }
 
 #[test]
-fn scripts_give_their_lines(rt: HostRuntime) -> Result<(), Fail> {
-    check_scripts::<Brand, HostRuntime>(&rt, rt.alloc(), Blank::new(1))
-}
-
-#[test]
-fn words_and_failures(rt: HostRuntime) -> Result<(), Fail> {
+fn failures_and_a_script_that_is_too_long(rt: HostRuntime) -> Result<(), Fail> {
     check_surroundings::<Brand, HostRuntime>(&rt, rt.alloc(), Blank::new(1))
 }
 
@@ -306,7 +153,7 @@ fn run_once<L: Ledger>(alloc: Global, blank: Blank) -> Result<Given, AllocError>
     requires some { 0 < blank.parts }
 {
     let mut steps = Steps::<L>::new(blank);
-    run_script(alloc, EACH_KIND, CSV, NOTHING, &mut steps)
+    run_script(alloc, EACH_KIND.as_bytes(), CSV, NOTHING, &mut steps)
 }
 
 /// It is run with each allocation failing in turn.

@@ -112,7 +112,34 @@ const fn refused(code: Code, live: usize, put: usize) -> Seen {
 
 const NAMES_AND_A_COPY: &str = "a <- data.table(v = 1L, \"q\")\nb <- a\nrm(a)\nb\nc <- copy(b)\n";
 
-const PRINTED: &str = "   v V2\n1: 1  q\n";
+const BRACKETS: &str =
+    "D <- data.table(a = 1:2)\nE <- D[]\nF <- D[,][]\nrm(D)\nG <- E[TRUE]\nG <- E[, .(a)]\nx <- E[, a]\nE\nH <- (E[])\ncopy(H)\n(H)\n";
+
+/// An empty bracket gives one more name of the same table; any other bracket a table of its own, or
+/// a vector. A table prints as three lines of five bytes.
+fn check_brackets<L: Ledger, R: Abort>(
+    rt: &R,
+    alloc: Global,
+    steps: &mut Steps<L>,
+) -> Result<(), Fail> {
+    let mut place = new_place(alloc);
+    let seen = run_each(rt, alloc, &mut place, BRACKETS, steps)?;
+    let want = [
+        done(1, 0),
+        done(1, 0),
+        done(1, 0),
+        done(1, 0),
+        done(2, 0),
+        done(2, 0),
+        done(2, 0),
+        done(2, 15),
+        done(2, 15),
+        done(2, 30),
+        done(2, 45),
+    ];
+    assert_eq!(rt; seen.as_slice(), want.as_slice());
+    Ok(())
+}
 
 /// A table lives as long as one name is bound to it, an alias makes none, and a copy makes one. A
 /// statement that is refused leaves as many as before, and puts nothing.
@@ -126,7 +153,6 @@ fn check_lives<L: Ledger, R: Abort>(rt: &R, alloc: Global, blank: Blank) -> Resu
     let seen = run_each(rt, alloc, &mut place, NAMES_AND_A_COPY, &mut steps)?;
     let want = [done(1, 0), done(1, 0), done(1, 0), done(1, 16), done(2, 16)];
     assert_eq!(rt; seen.as_slice(), want.as_slice());
-    assert_eq!(rt; place.out.bytes(), PRINTED.as_bytes());
     let seen = run_each(
         rt,
         alloc,
@@ -141,7 +167,7 @@ fn check_lives<L: Ledger, R: Abort>(rt: &R, alloc: Global, blank: Blank) -> Resu
     ];
     assert_eq!(rt; seen.as_slice(), want.as_slice());
     assert_eq!(rt; place.err.bytes().len(), 0);
-    Ok(())
+    check_brackets(rt, alloc, &mut steps)
 }
 
 /// The line of a refused statement, how many were done before it, and how it ended.
@@ -155,9 +181,7 @@ fn told(answer: Result<(), RunFail>) -> Option<(u32, u64, Answer)> {
 /// Its third statement is refused, on the second line.
 const STOPS: &str = "a <- data.table(v = 1L)\nb <- a; rm(nosuch)\nprint(b)\n";
 
-const NO_SUCH_NAME: &str = "Error E02 at line 2: unknown name 'nosuch'\n";
-
-/// A script ends at its first fault, whose line is put, and the statements before it stand.
+/// A script ends at its first fault, and the statements before it stand.
 fn check_stop<L: Ledger, R: Abort>(rt: &R, alloc: Global, blank: Blank) -> Result<(), Fail>
     requires name { blank.name ≡ L.name }
     requires parts { blank.parts ≡ L.parts }
@@ -177,8 +201,6 @@ fn check_stop<L: Ledger, R: Abort>(rt: &R, alloc: Global, blank: Blank) -> Resul
     );
     assert_eq!(rt; told(answer), Some((2, 2, Answer::Refused(Code::E02))));
     assert_eq!(rt; place.session.heap().live(), 1);
-    assert_eq!(rt; place.out.bytes().len(), 0);
-    assert_eq!(rt; place.err.bytes(), NO_SUCH_NAME.as_bytes());
     Ok(())
 }
 

@@ -1,22 +1,9 @@
 ghost use Rattle.std.specs.Prelude.{◌≡◌, ◌<◌};
 
-mod chains;
-mod columns;
-mod commands;
 mod functions;
-mod later;
-mod manual;
-mod rows;
 
-use crate::tests::chains::CHAINS;
-use crate::tests::columns::COLUMNS;
-use crate::tests::commands::COMMANDS;
 use crate::tests::functions::FUNCTIONS;
-use crate::tests::later::LATER;
-use crate::tests::manual::MANUAL;
-use crate::tests::rows::ROWS;
 use dt_base::Steps;
-use dt_script::parse;
 use dt_session::{Session, run_script};
 use dt_world::{MemFiles, MemSink};
 use std::alloc::{AllocError, Global};
@@ -27,10 +14,6 @@ use std::test::Fail;
 
 /// The last statements of a script; what the script puts on the output; and on the error output.
 pub type Row = (&'static str, &'static str, &'static str);
-
-/// The statements before those of a row about tables: two lines.
-const TABLE: &str =
-    "D <- data.table(a = c(5L, NA, -7L), b = c(TRUE, NA, FALSE), s = c(\"x\", NA, \"y\"))\nx <- c(2L, 3L)\n";
 
 /// The statements before those of a row about vectors: seven lines.
 const VECTORS: &str =
@@ -88,32 +71,7 @@ fn check_rows<L: Ledger, R: Abort>(
     Ok(())
 }
 
-/// The rows about a table: i and j.
-fn all_rows<L: Ledger, R: Abort>(rt: &R, alloc: Global, blank: Blank) -> Result<(), Fail>
-    requires name { blank.name ≡ L.name }
-    requires parts { blank.parts ≡ L.parts }
-    requires some { 0 < blank.parts }
-{
-    let mut steps = Steps::<L>::new(blank);
-    check_rows(rt, alloc, TABLE, &ROWS, &mut steps)?;
-    check_rows(rt, alloc, TABLE, &COLUMNS, &mut steps)?;
-    Ok(())
-}
-
-/// The rows about chains of brackets, about commands, and about what nothing serves yet.
-fn all_chains<L: Ledger, R: Abort>(rt: &R, alloc: Global, blank: Blank) -> Result<(), Fail>
-    requires name { blank.name ≡ L.name }
-    requires parts { blank.parts ≡ L.parts }
-    requires some { 0 < blank.parts }
-{
-    let mut steps = Steps::<L>::new(blank);
-    check_rows(rt, alloc, TABLE, &CHAINS, &mut steps)?;
-    check_rows(rt, alloc, TABLE, &COMMANDS, &mut steps)?;
-    check_rows(rt, alloc, TABLE, &LATER, &mut steps)?;
-    Ok(())
-}
-
-/// The rows about vectors, and the examples of the manual.
+/// The rows about vectors.
 fn all_functions<L: Ledger, R: Abort>(rt: &R, alloc: Global, blank: Blank) -> Result<(), Fail>
     requires name { blank.name ≡ L.name }
     requires parts { blank.parts ≡ L.parts }
@@ -121,73 +79,10 @@ fn all_functions<L: Ledger, R: Abort>(rt: &R, alloc: Global, blank: Blank) -> Re
 {
     let mut steps = Steps::<L>::new(blank);
     check_rows(rt, alloc, VECTORS, &FUNCTIONS, &mut steps)?;
-    check_rows(rt, alloc, "", &MANUAL, &mut steps)?;
-    Ok(())
-}
-
-/// How many tables live after each statement of a script, of which none is refused.
-fn lives<L: Ledger, R: Abort>(
-    rt: &R,
-    alloc: Global,
-    text: &str,
-    steps: &mut Steps<L>,
-) -> Result<Vec<usize>, AllocError> {
-    let bytes = text.as_bytes();
-    assert!(rt; bytes.len() <= 1_048_576);
-    let mut place = new_place(alloc);
-    let mut seen = Vec::new(alloc);
-    let Ok(script) = parse(alloc, bytes) else {
-        return Ok(seen);
-    };
-    for stmt in script.stmts.as_slice() {
-        let answer = place.session.exec(
-            stmt,
-            &mut place.files,
-            &mut place.out,
-            &mut place.err,
-            steps,
-        );
-        assert!(rt; answer.is_ok());
-        seen.push(place.session.heap().live())?;
-    }
-    Ok(seen)
-}
-
-const NAMES: &str =
-    "D <- data.table(a = 1:2)\nE <- D[]\nF <- D[,][]\nrm(D)\nG <- E[TRUE]\nG <- E[, .(a)]\nx <- E[, a]\nE\nH <- (E[])\ncopy(H)\n(H)\n";
-
-/// An empty bracket gives one more name of the same table; any other bracket a table of its own, or
-/// a vector.
-fn check_lives<L: Ledger, R: Abort>(rt: &R, alloc: Global, blank: Blank) -> Result<(), Fail>
-    requires name { blank.name ≡ L.name }
-    requires parts { blank.parts ≡ L.parts }
-    requires some { 0 < blank.parts }
-{
-    let mut steps = Steps::<L>::new(blank);
-    let seen = lives(rt, alloc, NAMES, &mut steps)?;
-    assert_eq!(rt;
-        seen.as_slice(),
-        [1usize, 1, 1, 1, 2, 2, 2, 2, 2, 2, 2].as_slice()
-    );
     Ok(())
 }
 
 #[test]
-fn brackets_choose_and_compute(rt: HostRuntime) -> Result<(), Fail> {
-    all_rows::<Brand, HostRuntime>(&rt, rt.alloc(), Blank::new(1))
-}
-
-#[test]
-fn brackets_go_from_left_to_right(rt: HostRuntime) -> Result<(), Fail> {
-    all_chains::<Brand, HostRuntime>(&rt, rt.alloc(), Blank::new(1))
-}
-
-#[test]
-fn functions_answer_and_the_manual_is_right(rt: HostRuntime) -> Result<(), Fail> {
+fn functions_answer(rt: HostRuntime) -> Result<(), Fail> {
     all_functions::<Brand, HostRuntime>(&rt, rt.alloc(), Blank::new(1))
-}
-
-#[test]
-fn empty_brackets_are_aliases(rt: HostRuntime) -> Result<(), Fail> {
-    check_lives::<Brand, HostRuntime>(&rt, rt.alloc(), Blank::new(1))
 }
