@@ -2,7 +2,6 @@
 //!
 //! - `rows`: each form of i. `columns`: each form of j, and the order of their faults.
 //! - `chains`: heads, chains of brackets, new names of tables, tables from any expression.
-//! - `functions`: operators and functions with NA, of nothing, of each type, and their faults.
 //! - `later`: what nothing serves yet. `manual`: the examples of docs/LANGUAGE.md.
 //!
 //! It stands on `dt_session` and promises nothing: the tables are tests of their own, so that the

@@ -3,7 +3,6 @@ ghost use Rattle.std.specs.Prelude.{◌≡◌, ◌<◌};
 mod chains;
 mod columns;
 mod commands;
-mod functions;
 mod later;
 mod manual;
 mod rows;
@@ -11,7 +10,6 @@ mod rows;
 use crate::tests::chains::CHAINS;
 use crate::tests::columns::COLUMNS;
 use crate::tests::commands::COMMANDS;
-use crate::tests::functions::FUNCTIONS;
 use crate::tests::later::LATER;
 use crate::tests::manual::MANUAL;
 use crate::tests::rows::ROWS;
@@ -31,10 +29,6 @@ pub type Row = (&'static str, &'static str, &'static str);
 /// The statements before those of a row about tables: two lines.
 const TABLE: &str =
     "D <- data.table(a = c(5L, NA, -7L), b = c(TRUE, NA, FALSE), s = c(\"x\", NA, \"y\"))\nx <- c(2L, 3L)\n";
-
-/// The statements before those of a row about vectors: seven lines.
-const VECTORS: &str =
-    "D <- data.table(a = c(5L, NA, -7L), b = c(TRUE, NA, FALSE), s = c(\"x\", NA, \"y\"))\na <- D[, a]\nb <- D[, b]\ns <- D[, s]\ne <- D[0L, a]\nf <- D[0L, b]\ng <- D[0L, s]\n";
 
 /// A session over an empty folder in memory.
 #[derive(Drop)]
@@ -113,14 +107,13 @@ fn all_chains<L: Ledger, R: Abort>(rt: &R, alloc: Global, blank: Blank) -> Resul
     Ok(())
 }
 
-/// The rows about vectors, and the examples of the manual.
+/// The examples of the manual.
 fn all_functions<L: Ledger, R: Abort>(rt: &R, alloc: Global, blank: Blank) -> Result<(), Fail>
     requires name { blank.name ≡ L.name }
     requires parts { blank.parts ≡ L.parts }
     requires some { 0 < blank.parts }
 {
     let mut steps = Steps::<L>::new(blank);
-    check_rows(rt, alloc, VECTORS, &FUNCTIONS, &mut steps)?;
     check_rows(rt, alloc, "", &MANUAL, &mut steps)?;
     Ok(())
 }
