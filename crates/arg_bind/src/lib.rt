@@ -21,6 +21,3 @@ pub use binding::bind;
 pub use fail::{EvalFail, stop, stop_length, stop_number, stop_unbuilt};
 pub use forms::{bare_name, text_literal};
 pub use places::{next, place};
-
-#[cfg(test)]
-mod tests;

@@ -29,6 +29,3 @@ pub use joining::combine;
 pub use sums::sum;
 pub use truths::{all, any};
 pub use valued::{Valued, one};
-
-#[cfg(test)]
-mod tests;
