@@ -17,6 +17,3 @@ mod places;
 pub use binding::bind;
 pub use forms::{bare_name, text_literal};
 pub use places::{next, place};
-
-#[cfg(test)]
-mod tests;

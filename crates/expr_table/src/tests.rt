@@ -1,9 +1,9 @@
 ghost use Rattle.std.specs.Prelude.{◌≡◌, ◌<◌};
 ghost use Rattle.expr_eval.specs.Scope.{IsScope};
 
-use crate::surroundings::{Names, parts, scope};
+use crate::surroundings::{NoNames, parts, scope};
 use dt_base::{ColType, Steps};
-use dt_print::{fault_line, vector_text, warn_lines};
+use dt_print::{fault_line, vector_text};
 use dt_script::{Expr, parse};
 use eval_fail::EvalFail;
 use expr_eval::{Scope, check, eval};
@@ -12,14 +12,51 @@ use std::marker::Brand;
 use std::process::Abort;
 use std::sync::ledger::{Blank, Ledger};
 use std::test::Fail;
-use valued::Valued;
 
-mod functions;
-mod operators;
-mod places;
-
-/// An expression, and what it prints: its value and its warnings, or its fault.
+/// An expression, and what it prints: its value, or its fault.
 type Row = (&'static [u8], &'static str);
+
+/// The shared row's column `g`: its one cell stands beside each of `a`.
+const SHARED: [Row; 4] = [
+    (b"g", "[1] 4\n"),
+    (b"-a + g", "[1] -1 NA 11\n"),
+    (b"a - g", "[1] 1 NA -11\n"),
+    (b"g * a", "[1] 20 NA -28\n"),
+];
+
+/// Special names of which a script is told first that nothing serves them.
+const SPECIAL: [Row; 2] = [
+    (b".GRP", "Error E03 at line 1: unknown column '.GRP'\n"),
+    (b".SD", "Error E04 at line 1: wrong type in .SD\n"),
+];
+
+/// Calls of which a script is told first that nothing serves them: without a look at their arguments.
+const CALLS: [Row; 8] = [
+    (b"key(D)", "Error E04 at line 1: wrong type in key\n"),
+    (
+        b"indices(D)",
+        "Error E04 at line 1: wrong type in indices\n",
+    ),
+    (b"order(z)", "Error E04 at line 1: wrong type in order\n"),
+    (b"lapply(z)", "Error E04 at line 1: wrong type in lapply\n"),
+    (b"J(z)", "Error E04 at line 1: wrong type in J\n"),
+    (
+        b"dcast(D, v ~ w)",
+        "Error E04 at line 1: wrong type in dcast\n",
+    ),
+    (b"setkey(D)", "Error E19 at line 1: bad argument 'setkey'\n"),
+    (
+        b"options()",
+        "Error E19 at line 1: bad argument 'options'\n",
+    ),
+];
+
+/// In the second group.
+const GROUPED: [Row; 3] = [
+    (b".GRP", "[1] 2\n"),
+    (b"a * .GRP", "[1] 10 NA -14\n"),
+    (b"g + .GRP", "[1] 6\n"),
+];
 
 fn failed(alloc: Global, fail: EvalFail) -> Result<Vec<u8>, AllocError> {
     match fail {
@@ -28,23 +65,12 @@ fn failed(alloc: Global, fail: EvalFail) -> Result<Vec<u8>, AllocError> {
     }
 }
 
-fn printed<L: Ledger>(
-    alloc: Global,
-    value: &Valued,
-    steps: &mut Steps<L>,
-) -> Result<Vec<u8>, AllocError> {
-    let mut out = vector_text(alloc, &value.column, steps)?;
-    let warns = warn_lines(alloc, 1, value.warns)?;
-    out.extend_from_slice(&warns)?;
-    Ok(out)
-}
-
 /// What an expression whose type is checked prints.
 fn value_text<L: Ledger>(
     alloc: Global,
     e: &Expr,
     kind: ColType,
-    s: &Scope<'_, Names>,
+    s: &Scope<'_, NoNames>,
     steps: &mut Steps<L>,
 ) -> Result<Vec<u8>, AllocError>
     requires { IsScope s.now }
@@ -54,7 +80,7 @@ fn value_text<L: Ledger>(
             if value.column.kind() != kind {
                 return Vec::from_slice(alloc, b"another type");
             }
-            printed(alloc, &value, steps)
+            vector_text(alloc, &value.column, steps)
         }
         Err(fail) => failed(alloc, fail),
     }
@@ -64,7 +90,7 @@ fn value_text<L: Ledger>(
 fn outcome<L: Ledger>(
     alloc: Global,
     e: &Expr,
-    s: &Scope<'_, Names>,
+    s: &Scope<'_, NoNames>,
     steps: &mut Steps<L>,
 ) -> Result<Vec<u8>, AllocError>
     requires { IsScope s.now }
@@ -79,7 +105,7 @@ fn row<L: Ledger, R: Abort>(
     rt: &R,
     alloc: Global,
     text: &[u8],
-    s: &Scope<'_, Names>,
+    s: &Scope<'_, NoNames>,
     steps: &mut Steps<L>,
 ) -> Result<Vec<u8>, Fail>
     requires { IsScope s.now }
@@ -94,7 +120,7 @@ fn compare<L: Ledger, R: Abort>(
     rt: &R,
     alloc: Global,
     table: &[Row],
-    s: &Scope<'_, Names>,
+    s: &Scope<'_, NoNames>,
     steps: &mut Steps<L>,
 ) -> Result<(), Fail>
     requires { IsScope s.now }
@@ -106,60 +132,19 @@ fn compare<L: Ledger, R: Abort>(
     Ok(())
 }
 
-fn all_operators<L: Ledger, R: Abort>(
-    rt: &R,
-    alloc: Global,
-    s: &Scope<'_, Names>,
-    steps: &mut Steps<L>,
-) -> Result<(), Fail>
-    requires { IsScope s.now }
-{
-    compare(rt, alloc, &operators::SUMS, s, steps)?;
-    compare(rt, alloc, &operators::QUOTIENTS, s, steps)?;
-    compare(rt, alloc, &operators::COMPARISONS, s, steps)?;
-    compare(rt, alloc, &operators::TRUTHS, s, steps)?;
-    compare(rt, alloc, &operators::SIGNS, s, steps)?;
-    compare(rt, alloc, &operators::MEMBERS, s, steps)?;
-    compare(rt, alloc, &operators::RANGES, s, steps)?;
-    compare(rt, alloc, &operators::LENGTHS, s, steps)?;
-    compare(rt, alloc, &operators::ORDERS, s, steps)
-}
-
-fn all_functions<L: Ledger, R: Abort>(
-    rt: &R,
-    alloc: Global,
-    s: &Scope<'_, Names>,
-    steps: &mut Steps<L>,
-) -> Result<(), Fail>
-    requires { IsScope s.now }
-{
-    compare(rt, alloc, &functions::JOINED, s, steps)?;
-    compare(rt, alloc, &functions::MISSING, s, steps)?;
-    compare(rt, alloc, &functions::CHOICES, s, steps)?;
-    compare(rt, alloc, &functions::CONVERSIONS, s, steps)?;
-    compare(rt, alloc, &functions::TOTALS, s, steps)?;
-    compare(rt, alloc, &functions::EXTREMES, s, steps)?;
-    compare(rt, alloc, &functions::QUANTIFIED, s, steps)?;
-    compare(rt, alloc, &functions::ENDS, s, steps)?;
-    compare(rt, alloc, &functions::TOLD, s, steps)?;
-    compare(rt, alloc, &functions::CALLS, s, steps)
-}
-
 fn all_rows<L: Ledger, R: Abort>(rt: &R, alloc: Global, blank: Blank) -> Result<(), Fail>
     requires name { blank.name ≡ L.name }
     requires parts { blank.parts ≡ L.parts }
     requires some { 0 < blank.parts }
 {
     let mut steps = Steps::<L>::new(blank);
-    let rows = parts(alloc).ok().ok_or("no rows")?;
-    let inside = scope(&rows, true, 0).ok_or("no bracket")?;
-    all_operators(rt, alloc, &inside, &mut steps)?;
-    all_functions(rt, alloc, &inside, &mut steps)?;
-    compare(rt, alloc, &places::BRACKET, &inside, &mut steps)?;
-    let outside = scope(&rows, false, 0).ok_or("no line")?;
-    compare(rt, alloc, &places::SCRIPT, &outside, &mut steps)?;
-    let grouped = scope(&rows, true, 2).ok_or("no group")?;
-    compare(rt, alloc, &places::GROUPED, &grouped, &mut steps)
+    let rows = parts(alloc)?;
+    let no_group = scope(&rows, &NoNames, 0).ok_or("no bracket")?;
+    compare(rt, alloc, &SHARED, &no_group, &mut steps)?;
+    compare(rt, alloc, &SPECIAL, &no_group, &mut steps)?;
+    compare(rt, alloc, &CALLS, &no_group, &mut steps)?;
+    let grouped = scope(&rows, &NoNames, 2).ok_or("no group")?;
+    compare(rt, alloc, &GROUPED, &grouped, &mut steps)
 }
 
 #[test]

@@ -20,6 +20,3 @@ mod truths;
 pub use lengths::{common_length, repeated};
 pub use listing::all_rows;
 pub use rows::chosen_rows;
-
-#[cfg(test)]
-mod tests;

@@ -27,6 +27,3 @@ pub use extremes::{max, min};
 pub use joining::combine;
 pub use sums::sum;
 pub use truths::{all, any};
-
-#[cfg(test)]
-mod tests;
