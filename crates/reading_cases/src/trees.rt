@@ -1,5 +1,7 @@
+//! The trees of a script, in a compact spelling: the operands of an operator stand in braces.
 ghost use Rattle.std.specs.Prelude.{◌≤◌, length};
 
+use crate::judge::Told;
 use dt_base::{Cell, ColType, Op, Text};
 use dt_script::{Arg, BinOp, Bracket, Expr, ParseFail, Script, Second, Stmt, Tail, parse};
 use sqlite_items::Items;
@@ -183,37 +185,51 @@ fn add_expr(out: &mut String, expr: &Expr) -> Result<(), AllocError> {
     }
 }
 
+/// A statement as `LINE:TREE` or `LINE:TARGET<-TREE`.
 fn add_stmt(out: &mut String, stmt: &Stmt) -> Result<(), AllocError> {
     write!(out, "{}:", stmt.line)?;
     if let Some(target) = &stmt.target {
         out.push_str(target.as_str())?;
         out.push_str("<-")?;
     }
-    add_expr(out, &stmt.expr)
+    add_expr(out, &stmt.expr)?;
+    out.push_str("\n")
 }
 
-fn script_spelling(alloc: Global, script: &Script) -> Result<String, AllocError> {
+/// Each statement on a line of its own.
+fn spelling(alloc: Global, script: &Script) -> Result<String, AllocError> {
     let mut out = String::new(alloc);
-    for (i, stmt) in script.stmts.as_slice().iter().enumerate() {
-        if i > 0 {
-            out.push_str(" ; ")?;
-        }
+    for stmt in script.stmts.as_slice() {
         add_stmt(&mut out, stmt)?;
     }
     Ok(out)
 }
 
-/// What the bytes are read into: each statement as `LINE:TREE` or `LINE:TARGET<-TREE`, or the
-/// fault.
-pub fn spelling(alloc: Global, bytes: &[u8]) -> Result<String, AllocError>
-    requires { length bytes.now ≤ 1_048_576 }
+/// The line of a fault, as `dtq --check` puts it.
+fn fault_line(alloc: Global, fail: ParseFail) -> Result<String, AllocError> {
+    match fail {
+        ParseFail::NotUtf8 => {
+            String::from_str(alloc, "Error E18 at line 0: not UTF-8 in the script\n")
+        }
+        ParseFail::Syntax { line, byte } => {
+            format!(in alloc; "Error E01 at line {line}: syntax at byte {byte}\n")
+        }
+        ParseFail::Number { line } => {
+            format!(in alloc; "Error E22 at line {line}: number out of range\n")
+        }
+        ParseFail::TooDeep { line } => {
+            format!(in alloc; "Error E21 at line {line}: brackets nested deeper than 64\n")
+        }
+        ParseFail::NoMemory(error) => Err(error),
+    }
+}
+
+/// The trees that a script is read to.
+pub fn told_trees(alloc: Global, script: &[u8]) -> Result<Told, AllocError>
+    requires { length script.now ≤ 1_048_576 }
 {
-    match parse(alloc, bytes) {
-        Ok(script) => script_spelling(alloc, &script),
-        Err(ParseFail::NotUtf8) => String::from_str(alloc, "not UTF-8"),
-        Err(ParseFail::Syntax { line, byte }) => format!(in alloc; "syntax {line}.{byte}"),
-        Err(ParseFail::Number { line }) => format!(in alloc; "number {line}"),
-        Err(ParseFail::TooDeep { line }) => format!(in alloc; "too deep {line}"),
-        Err(ParseFail::NoMemory(error)) => Err(error),
+    match parse(alloc, script) {
+        Ok(read) => Ok(Told::spelled(alloc, spelling(alloc, &read)?)),
+        Err(fail) => Ok(Told::refused(alloc, fault_line(alloc, fail)?)),
     }
 }
