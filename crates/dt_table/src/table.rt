@@ -16,7 +16,7 @@ use std::sync::ledger::Ledger;
 ///
 /// Its names are distinct and none is empty; it has at most 16,777,216 rows and 67,108,864 cells,
 /// and no more columns than slots. Contracts see all its parts, and `plain` reads them row by row.
-#[derive(Debug, Drop)]
+#[derive(Drop)]
 pub struct Table {
     names: Vec<ColName>,
     frame: Frame,

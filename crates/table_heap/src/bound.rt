@@ -10,21 +10,21 @@ pub struct Id {
 }
 
 /// What a name is bound to.
-#[derive(Debug, Drop)]
+#[derive(Drop)]
 pub(crate) enum Bound {
     Table(Id),
     Vector(Column),
 }
 
 /// A table and its number.
-#[derive(Debug, Drop)]
+#[derive(Drop)]
 pub(crate) struct Numbered {
     pub(crate) number: u64,
     pub(crate) table: Table,
 }
 
 /// What is found at a name.
-#[derive(Clone, Copy, Debug)]
+#[derive(Clone, Copy)]
 pub enum Look<'a> {
     /// The name is not bound.
     Absent,

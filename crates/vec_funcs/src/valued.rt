@@ -11,7 +11,7 @@ use na_words::Target;
 use std::alloc::{AllocError, Global};
 
 /// What a function gives: a column of its own, and the warnings that it comes with.
-#[derive(Debug, Drop)]
+#[derive(Drop)]
 pub struct Valued {
     pub column: Column,
     pub warns: Warns,
