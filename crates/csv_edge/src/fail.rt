@@ -1,25 +1,19 @@
 ghost use Rattle.csv_edge.specs.declared.fail.CsvFail.TheVariants.{NoMemory};
 
 use std::alloc::AllocError;
-use thiserror::Error;
 
 /// Why a file is not read, in the order in which a record is looked at. Records count from 1 with
 /// the header.
-#[derive(Debug, Drop, Error)]
+#[derive(Drop)]
 pub enum CsvFail {
     /// The record has another number of fields than the header.
-    #[error("record {at} has another number of fields")]
     Ragged { at: u64 },
     /// A field of the record is not UTF-8.
-    #[error("not UTF-8 in record {at}")]
     NotUtf8 { at: u64 },
     /// The header has more than 4,096 fields.
-    #[error("more than 4096 columns")]
     TooManyColumns,
     /// More than 16,777,216 records stand below the header.
-    #[error("more than 16777216 rows")]
     TooManyRows,
-    #[error("out of memory")]
     NoMemory(AllocError),
 }
 

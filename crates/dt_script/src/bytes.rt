@@ -12,26 +12,20 @@ use dt_misplaced::misplaced_at;
 use dt_tokens::{TokensFail, tokens};
 use dt_tree::{Placed, Script, ScriptFault};
 use std::alloc::{AllocError, Global};
-use thiserror::Error;
 
 /// Why a script is refused. Lines and bytes count from 1.
-#[derive(Debug, Drop, Error)]
+#[derive(Drop)]
 pub enum ParseFail {
     /// The bytes are not UTF-8.
-    #[error("not UTF-8")]
     NotUtf8,
     /// A bad character, escape or form of a number, a text without an end, a token with which no
     /// script goes on, or an assignment in a wrong place.
-    #[error("syntax error at line {line}, byte {byte}")]
     Syntax { line: u32, byte: u32 },
     /// An integer past the limit.
-    #[error("number out of range at line {line}")]
     Number { line: u32 },
     /// Brackets nest too deep.
-    #[error("nesting too deep at line {line}")]
     TooDeep { line: u32 },
     /// Want of memory, which may come at any point of the call.
-    #[error("out of memory")]
     NoMemory(AllocError),
 }
 

@@ -9,7 +9,7 @@ use std::alloc::{AllocError, Global};
 use std::str;
 
 /// Why the tokens of a script are not given.
-#[derive(Debug, Drop)]
+#[derive(Drop)]
 pub enum TokensFail {
     /// The script's first fault.
     Fault(ScriptFault),

@@ -259,7 +259,7 @@ fn scripts(rt: HostRuntime) -> Result<(), Fail> {
     compare(&rt, alloc, &LINES)?;
     compare(&rt, alloc, &PLACES)?;
     compare(&rt, alloc, &BRACKETS)?;
-    let flat = tokens(alloc, FLAT)?;
+    let flat = tokens(alloc, FLAT).ok().ok_or("no tokens")?;
     assert_eq!(rt; flat.len(), 64 + 1 + 64 + 1 + 64);
     Ok(())
 }
@@ -272,7 +272,7 @@ fn the_longest_script(rt: HostRuntime) -> Result<(), Fail> {
         script.extend_from_slice(b"abc <- 12L %in% 'x\\n y' # no ab\n")?;
     }
     assert_eq!(rt; script.len(), 1_048_576);
-    let found = tokens(rt.alloc(), &script)?;
+    let found = tokens(rt.alloc(), &script).ok().ok_or("no tokens")?;
     assert_eq!(rt; found.len(), 6 * 32_768);
     Ok(())
 }

@@ -2,7 +2,7 @@ ghost use Rattle.std.specs.Prelude.{◌≡◌};
 ghost use Rattle.func_table.specs.Calls.{name_of, is_needed, is_flag};
 
 /// An argument that a call has, one for each name that arguments have in the language.
-#[derive(Clone, Copy, Debug, PartialEq, Eq)]
+#[derive(Clone, Copy, PartialEq, Eq)]
 pub enum Formal {
     File,
     Name,

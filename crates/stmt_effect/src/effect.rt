@@ -9,7 +9,7 @@ use std::alloc::Global;
 use table_heap::Id;
 
 /// The change of names and tables that a statement makes.
-#[derive(Debug, Drop)]
+#[derive(Drop)]
 pub enum Change {
     Nothing,
     /// The name is bound to a new table.
@@ -23,7 +23,7 @@ pub enum Change {
 }
 
 /// A file that a statement writes.
-#[derive(Debug, Drop)]
+#[derive(Drop)]
 pub struct Written {
     pub name: Text,
     pub bytes: Vec<u8>,
@@ -31,7 +31,7 @@ pub struct Written {
 
 /// What a statement does: the text for the output, the file that it writes, its warnings, and its
 /// change.
-#[derive(Debug, Drop)]
+#[derive(Drop)]
 pub struct Effect {
     pub text: Vec<u8>,
     pub file: Option<Written>,

@@ -5,7 +5,7 @@ use na_vector::Column;
 use table_heap::Id;
 
 /// What an expression gives.
-#[derive(Debug, Drop)]
+#[derive(Drop)]
 pub enum Value<'a> {
     /// A table that names are bound to.
     Named(Id),
@@ -39,7 +39,7 @@ impl Value<'_> {
 }
 
 /// A value, and the warnings that it comes with.
-#[derive(Debug, Drop)]
+#[derive(Drop)]
 pub struct Given<'a> {
     pub value: Value<'a>,
     pub warns: Warns,
