@@ -1,15 +1,12 @@
 -- What digits spell when they follow others, one digit at a time.
-use Rattle.std.proofs.Common.{◌≡◌, ◌≤◌, ◌<◌, ◌+◌, ◌*◌, ◌-◌, ◌%◌, ◌^◌, ◌⊎◌, ℕ, suc, Bool, ◌&&◌, List, [], ◌∷◌, Option, Some, None, length, drop, get_or, nat_lt, arith, add-one, drop-cons, if◌then◌else◌}
+use Rattle.std.proofs.Common.{◌≡◌, ◌≤◌, ◌<◌, ◌+◌, ◌*◌, ◌-◌, ◌%◌, ◌^◌, ◌⊎◌, ℕ, suc, Bool, ◌&&◌, List, [], ◌∷◌, Some, None, length, drop, get_or, nat_lt, arith, add-one, drop-cons, if◌then◌else◌}
+use Rattle.std.proofs.Math.Nat.{pow-le-pow_right}
 use Rattle.std.proofs.lemmas.Grind.{common_steps}
 use Rattle.std.specs.Char.{digit_value}
 use Rattle.std.specs.Str.{all_ascii_digits}
 use Rattle.std.specs.Str.Parse.{digits_value_after}
+use Rattle.cell_text.specs.Digits.{natural_after}
 use Rattle.dt_model.specs.Spelling.{natural_of}
-
--- the number that digits spell after those of n, if they are digits and it is below 2^63
-abbrev pub natural_after : ℕ → List ℕ → Option ℕ
-natural_after n ds =
-    if all_ascii_digits ds && nat_lt (digits_value_after 10 n ds) (2 ^ 63) then Some (digits_value_after 10 n ds) else None
 
 -- one digit more
 pub natural_after_digit : (n c : ℕ) (cs : List ℕ) → 48 ≤ c → c ≤ 57 → natural_after n (c ∷ cs) ≡ natural_after (n * 10 + (c - 48)) cs
@@ -64,3 +61,10 @@ natural_after_drop_great n i ds within great =
 -- a byte whose distance from the digit 0 is more than 9
 pub not_digit : (b : ℕ) → b < 256 → 9 < (b + 208) % 256 → (b < 48) ⊎ (57 < b)
 not_digit b small far = grind arith
+
+-- a number of at most eighteen digits
+pub few_digits : (n i : ℕ) → n < 10 ^ (i + 1) → i ≤ 17 → n < 1000000000000000000
+few_digits n i short few =
+    let more : i + 1 ≤ 18 = omega arith in
+    let power : 10 ^ (i + 1) ≤ 10 ^ 18 = pow-le-pow_right {n = 10} (omega arith) {i = i + 1} {j = 18} more in
+    omega (arith, short, power)

@@ -10,7 +10,7 @@ use dt_tree::{Arg, Bracket, Expr, Placed, Script, Second, Sign, Stmt, Token};
 use std::alloc::{AllocError, Global};
 
 /// How far an outermost chain has come: no assignment yet, one, or one and a bracket behind it.
-#[derive(Clone, Copy, PartialEq, Eq)]
+#[derive(Clone, Copy)]
 pub enum Stage {
     Free,
     Assigned,

@@ -1,4 +1,5 @@
 pub mod Elements
+pub mod Filled
 pub mod Framed
 pub mod Given
 pub mod Lines

@@ -1,41 +1,56 @@
 //! The lines of faults and warnings. The texts of the codes stand here in one table.
-ghost use Rattle.std.specs.Prelude.{◌≡◌, ◌++◌, OnOk, IfOk, decimal, codes};
-ghost use Rattle.run_model.specs.Messages.{code_name, group_text, encoding_text, fault_text, line_start, printed_fault, warn_name, warn_text, warn_line, printed_warns};
+ghost use Rattle.std.specs.Prelude.{◌≡◌, ◌++◌, ℕ, List, OnOk, IfOk, decimal};
+ghost use Rattle.run_model.specs.Messages.{code_name, group_text, text_of, fault_text, line_start, printed_fault, warn_name, warn_text, warn_line, printed_warns};
 ghost use Rattle.std.specs.List.{flat_map};
+ghost use Rattle.dt_print.specs.Filled.{source_text, filling, filled};
 ghost use Rattle.dt_print.specs.Given.{line_if_given};
 
 use crate::cells::push_number;
 use dt_base::{Code, Fault, Warn, Warns};
 use std::alloc::{AllocError, Global};
 
+/// The letters of the codes, by their numbers.
+const CODES: [&str; 24] = [
+    "E01", "E02", "E03", "E04", "E05", "E06", "E07", "E08", "E09", "E10", "E11", "E12", "E13",
+    "E14", "E15", "E16", "E17", "E18", "E19", "E20", "E21", "E22", "E23", "E24",
+];
+
 fn code_letters(code: Code) -> &'static str
     ensures { result.now ≡ code_name code }
 {
+    CODES[code as usize]
+}
+
+/// What a code says. `$` stands for the name of a fault, `#` and `&` for its numbers, `@` for its
+/// place in a grouped query, and `~` for what is not UTF-8.
+fn code_words(code: Code) -> &'static str
+    ensures { (what : List ℕ) (n m : ℕ) → filled what n m result.now ≡ text_of code what n m }
+{
     match code {
-        Code::E01 => "E01",
-        Code::E02 => "E02",
-        Code::E03 => "E03",
-        Code::E04 => "E04",
-        Code::E05 => "E05",
-        Code::E06 => "E06",
-        Code::E07 => "E07",
-        Code::E08 => "E08",
-        Code::E09 => "E09",
-        Code::E10 => "E10",
-        Code::E11 => "E11",
-        Code::E12 => "E12",
-        Code::E13 => "E13",
-        Code::E14 => "E14",
-        Code::E15 => "E15",
-        Code::E16 => "E16",
-        Code::E17 => "E17",
-        Code::E18 => "E18",
-        Code::E19 => "E19",
-        Code::E20 => "E20",
-        Code::E21 => "E21",
-        Code::E22 => "E22",
-        Code::E23 => "E23",
-        Code::E24 => "E24",
+        Code::E01 => "syntax at byte #",
+        Code::E02 => "unknown name '$'",
+        Code::E03 => "unknown column '$'",
+        Code::E04 => "wrong type in $",
+        Code::E05 => "length # where & is wanted",
+        Code::E06 => "integer overflow in $@",
+        Code::E07 => "more than 16777216 rows",
+        Code::E08 => "more than 67108864 cells",
+        Code::E09 => "more than # columns",
+        Code::E10 => "no key",
+        Code::E11 => "join of # rows where & are permitted",
+        Code::E12 => "duplicate name '$'",
+        Code::E13 => "positive and negative positions mixed",
+        Code::E14 => "bad interval in $, row #",
+        Code::E15 => "no file '$'",
+        Code::E16 => "file '$' is longer than # bytes",
+        Code::E17 => "record # has another number of fields",
+        Code::E18 => "not UTF-8 in ~",
+        Code::E19 => "bad argument '$'",
+        Code::E20 => "'$' is not a table",
+        Code::E21 => "brackets nested deeper than 64",
+        Code::E22 => "number out of range",
+        Code::E23 => "y has no key of two columns",
+        Code::E24 => "columns differ",
     }
 }
 
@@ -53,27 +68,11 @@ fn push_told(out: &mut Vec<u8>, before: &str, what: &str, after: &str) -> Result
     push_words(out, after)
 }
 
-fn push_counted(out: &mut Vec<u8>, before: &str, n: u64, after: &str) -> Result<(), AllocError>
-    ensures { OnOk result (out.new.items ≡ out.old.items ++ (before.now ++ decimal n ++ after.now)) }
+fn push_counted(out: &mut Vec<u8>, before: &str, n: u64) -> Result<(), AllocError>
+    ensures { OnOk result (out.new.items ≡ out.old.items ++ (before.now ++ decimal n)) }
 {
     push_words(out, before)?;
-    push_number(out, n)?;
-    push_words(out, after)
-}
-
-fn push_both(
-    out: &mut Vec<u8>,
-    before: &str,
-    what: &str,
-    between: &str,
-    n: u64,
-    after: &str,
-) -> Result<(), AllocError>
-    ensures { OnOk result (out.new.items ≡ out.old.items ++ (before.now ++ what.now ++ between.now ++ decimal n ++ after.now)) }
-{
-    push_told(out, before, what, between)?;
-    push_number(out, n)?;
-    push_words(out, after)
+    push_number(out, n)
 }
 
 fn push_group(out: &mut Vec<u8>, group: u64, expression: u64) -> Result<(), AllocError>
@@ -82,69 +81,42 @@ fn push_group(out: &mut Vec<u8>, group: u64, expression: u64) -> Result<(), Allo
     if group == 0 {
         return Ok(());
     }
-    push_counted(out, " (group ", group, ", expression ")?;
-    push_counted(out, "", expression, ")")
+    push_counted(out, " (group ", group)?;
+    push_counted(out, ", expression ", expression)?;
+    push_words(out, ")")
 }
 
-fn push_overflow(
-    out: &mut Vec<u8>,
-    what: &str,
-    group: u64,
-    expression: u64,
-) -> Result<(), AllocError>
-    ensures { OnOk result (out.new.items ≡ out.old.items ++ (codes "integer overflow in " ++ what.now ++ group_text group expression)) }
-{
-    push_words(out, "integer overflow in ")?;
-    push_words(out, what)?;
-    push_group(out, group, expression)
-}
-
-fn push_encoding(out: &mut Vec<u8>, n: u64) -> Result<(), AllocError>
-    ensures { OnOk result (out.new.items ≡ out.old.items ++ encoding_text n) }
+fn push_source(out: &mut Vec<u8>, n: u64) -> Result<(), AllocError>
+    ensures { OnOk result (out.new.items ≡ out.old.items ++ source_text n) }
 {
     if n == 0 {
-        push_words(out, "not UTF-8 in the script")
+        push_words(out, "the script")
     } else {
-        push_counted(out, "not UTF-8 in record ", n, "")
+        push_counted(out, "record ", n)
+    }
+}
+
+/// Adds a byte of a code's words, or what it stands for.
+fn push_filled(out: &mut Vec<u8>, f: &Fault, byte: u8) -> Result<(), AllocError>
+    ensures { OnOk result (out.new.items ≡ out.old.items ++ filling f.now.what f.now.n f.now.m byte) }
+{
+    match byte {
+        b'$' => push_words(out, f.what.as_str()),
+        b'#' => push_number(out, f.n),
+        b'&' => push_number(out, f.m),
+        b'@' => push_group(out, f.n, f.m),
+        b'~' => push_source(out, f.n),
+        _ => Ok(out.push(byte)?),
     }
 }
 
 fn push_fault_text(out: &mut Vec<u8>, f: &Fault) -> Result<(), AllocError>
     ensures { OnOk result (out.new.items ≡ out.old.items ++ fault_text f.now) }
 {
-    let what = f.what.as_str();
-    match f.code {
-        Code::E01 => push_counted(out, "syntax at byte ", f.n, ""),
-        Code::E02 => push_told(out, "unknown name '", what, "'"),
-        Code::E03 => push_told(out, "unknown column '", what, "'"),
-        Code::E04 => push_told(out, "wrong type in ", what, ""),
-        Code::E05 => {
-            push_counted(out, "length ", f.n, " where ")?;
-            push_counted(out, "", f.m, " is wanted")
-        }
-        Code::E06 => push_overflow(out, what, f.n, f.m),
-        Code::E07 => push_words(out, "more than 16777216 rows"),
-        Code::E08 => push_words(out, "more than 67108864 cells"),
-        Code::E09 => push_counted(out, "more than ", f.n, " columns"),
-        Code::E10 => push_words(out, "no key"),
-        Code::E11 => {
-            push_counted(out, "join of ", f.n, " rows where ")?;
-            push_counted(out, "", f.m, " are permitted")
-        }
-        Code::E12 => push_told(out, "duplicate name '", what, "'"),
-        Code::E13 => push_words(out, "positive and negative positions mixed"),
-        Code::E14 => push_both(out, "bad interval in ", what, ", row ", f.n, ""),
-        Code::E15 => push_told(out, "no file '", what, "'"),
-        Code::E16 => push_both(out, "file '", what, "' is longer than ", f.n, " bytes"),
-        Code::E17 => push_counted(out, "record ", f.n, " has another number of fields"),
-        Code::E18 => push_encoding(out, f.n),
-        Code::E19 => push_told(out, "bad argument '", what, "'"),
-        Code::E20 => push_told(out, "'", what, "' is not a table"),
-        Code::E21 => push_words(out, "brackets nested deeper than 64"),
-        Code::E22 => push_words(out, "number out of range"),
-        Code::E23 => push_words(out, "y has no key of two columns"),
-        Code::E24 => push_words(out, "columns differ"),
+    for byte in code_words(f.code).as_bytes() {
+        push_filled(out, f, *byte)?;
     }
+    Ok(())
 }
 
 fn push_line_start(
@@ -188,17 +160,13 @@ const WARNINGS: [Warn; 6] = [
     Warn::W06,
 ];
 
+/// The letters of the warnings, by their numbers.
+const WARNING_CODES: [&str; 6] = ["W01", "W02", "W03", "W04", "W05", "W06"];
+
 fn warn_letters(warn: Warn) -> &'static str
     ensures { result.now ≡ warn_name warn }
 {
-    match warn {
-        Warn::W01 => "W01",
-        Warn::W02 => "W02",
-        Warn::W03 => "W03",
-        Warn::W04 => "W04",
-        Warn::W05 => "W05",
-        Warn::W06 => "W06",
-    }
+    WARNING_CODES[warn as usize]
 }
 
 fn warn_words(warn: Warn) -> &'static str

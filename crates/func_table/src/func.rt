@@ -4,7 +4,7 @@ ghost use Rattle.func_table.specs.Calls.{func_of, word_of, kind_of, arity_of, fo
 use crate::Formal;
 
 /// A function or command that is served, by statements or in expressions.
-#[derive(Clone, Copy, PartialEq, Eq)]
+#[derive(Clone, Copy)]
 pub enum Func {
     DataTable,
     Fread,
@@ -47,7 +47,7 @@ pub enum Kind {
 
 /// How arguments are bound: to formals; one or more of them as columns, whose names are free; or one
 /// or more of them, which have no names.
-#[derive(Clone, Copy, PartialEq, Eq)]
+#[derive(Clone, Copy)]
 pub enum Arity {
     Fixed,
     Columns,
@@ -56,7 +56,7 @@ pub enum Arity {
 
 /// What a call is that the language has and nothing serves yet: it gives a vector; it gives none, or
 /// stands only where a rule of its own says; or it is a whole statement.
-#[derive(Clone, Copy, PartialEq, Eq)]
+#[derive(Clone, Copy)]
 pub enum Later {
     Vector,
     NoVector,

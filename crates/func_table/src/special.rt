@@ -2,7 +2,7 @@ ghost use Rattle.std.specs.Prelude.{◌≡◌};
 ghost use Rattle.func_table.specs.Special.{special_of, is_later_special, is_bracket_argument};
 
 /// A name that has a meaning of its own in a bracket.
-#[derive(Clone, Copy, PartialEq, Eq)]
+#[derive(Clone, Copy)]
 pub enum Special {
     /// `.N`, the number of rows.
     Count,
