@@ -20,7 +20,7 @@ use dt_table::Table;
 use dt_tree::Expr;
 use eval_fail::{EvalFail, stop, stop_unbuilt};
 use expr_eval::{Scope, Vars, check, eval};
-use func_table::special_named;
+use func_table::{Special, special_named};
 use na_vector::{Column, Frame};
 use row_choice::{all_rows, chosen_rows};
 use std::alloc::Global;
@@ -122,7 +122,8 @@ fn variable_rows<V: Vars, L: Ledger>(
     }
 }
 
-/// The rows that a bare name chooses: a special name by its value, any other as the script's.
+/// The rows that a bare name chooses: `.N` by its value, any other as the script's, of which no
+/// special name is one.
 fn name_rows<V: Vars, L: Ledger>(
     alloc: Global,
     e: &Expr,
@@ -137,7 +138,8 @@ fn name_rows<V: Vars, L: Ledger>(
     ensures own { IfErr result IsOwn }
 {
     match special_named(name) {
-        Some(_) => valued_rows(alloc, e, x, s, steps),
+        Some(Special::Count) => valued_rows(alloc, e, x, s, steps),
+        Some(Special::Places | Special::Group | Special::Rows) => Err(stop(alloc, Code::E02, name)),
         None => variable_rows(alloc, name, x, s.vars, steps),
     }
 }
@@ -209,8 +211,8 @@ fn rows_in<V: Vars, L: Ledger>(
 
 /// The rows that i chooses of a table.
 ///
-/// A bare name that is no special one is looked up among the script's names alone: E02 where it is
-/// unbound. The name of a table, and `!` before one, is not served. Anything else has its type first,
+/// A bare name but `.N` is looked up among the script's names alone: E02 where it is unbound, or is
+/// another special name. The name of a table, and `!` before one, is not served. Anything else has its type first,
 /// over all rows of the table, and then its value. Then come the faults of choosing rows by it: E05
 /// for the length of a logical, E13 for mixed signs. dtq's own rule, docs/LANGUAGE.md, section
 /// "Brackets".
