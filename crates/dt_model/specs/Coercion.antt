@@ -7,7 +7,7 @@
 --   becomes_na t c       to bring c to t makes NA of a text
 --   coerced t v          the vector v brought to the type t
 --   coercion_warns t v   the warnings of that: each that some cell of v has
-use Rattle.std.specs.Prelude.{ℤ, pos, Bool, true, false, not, ◌&&◌, List, map, Option, None, Some, if◌then◌else◌}
+use Rattle.std.specs.Prelude.{ℤ, pos, Bool, true, false, not, ◌&&◌, map, Option, None, Some, if◌then◌else◌}
 use Rattle.std.specs.List.{list_any}
 use Rattle.std.specs.Ordering.{int_eq}
 use Rattle.std.specs.Fmt.{signed_decimal}
