@@ -12,9 +12,9 @@ use std::alloc::{AllocError, Global};
 pub struct NoNames;
 
 impl Vars for NoNames {
-    ghost use Rattle.expr_table.specs.Held.{bound_in};
+    ghost use Rattle.std.specs.Prelude.{None};
 
-    ghost bound = { bound_in };
+    ghost bound = { λ _ _. None };
 
     fn vector(&self, _name: &str) -> Option<&Column> {
         None
