@@ -4,7 +4,7 @@ ghost use Rattle.std.specs.Prelude.{◌≡◌, ◌<◌};
 mod failing;
 mod tables;
 
-use crate::run::run;
+use crate::running::run;
 use crate::status::Status;
 use crate::tests::failing::{CSV, FAILURES, Failing, NOTHING, SCRIPT};
 use crate::tests::tables::{
