@@ -35,12 +35,12 @@ impl Folder {
             Err(_) => Ok(None),
         }
     }
+}
 
-    /// Remembers a name.
-    fn remember(&mut self, name: &str) -> Result<(), AllocError> {
-        self.written.push(Text::make(self.alloc, name)?)?;
-        Ok(())
-    }
+/// One name more.
+fn remember(alloc: Global, names: &mut Vec<Text>, name: &str) -> Result<(), AllocError> {
+    names.push(Text::make(alloc, name)?)?;
+    Ok(())
 }
 
 impl Files for Folder {
@@ -59,7 +59,7 @@ impl Files for Folder {
     }
 
     fn write(&mut self, name: &str, bytes: &[u8]) -> Result<(), WriteFail> {
-        match self.remember(name) {
+        match remember(self.alloc, &mut self.written, name) {
             Ok(()) => self.files.write(name, bytes),
             Err(error) => Err(WriteFail::NoMemory(error)),
         }

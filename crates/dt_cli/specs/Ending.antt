@@ -24,12 +24,12 @@ abbrev pub wordless : ErrorKind → Status
 wordless OutOfMemory = NoMemory
 wordless _ = ReadFault
 
--- What `run` promises of the status s on these words, by what stood outside and stands there now; the
+-- What `run` promises of the status s on the words ws, by what stood outside and stands there now; the
 -- last three are so at a failed read, at a failed put or write, and at a fault.
-pub record IsRun (held : Option FileMap) (words : List (List ℕ)) (old now : World) (reads writes stops : Type 0) (s : Status) : Type 0 where
-  pub headline : Headline held words old now s
-  pub words : IsByWords words s
-  pub usage : s ≡ Usage → LacksScript (with_name words)
+pub record IsRun (held : Option FileMap) (ws : List (List ℕ)) (old now : World) (reads writes stops : Type 0) (s : Status) : Type 0 where
+  pub headline : Headline held ws old now s
+  pub words : IsByWords ws s
+  pub usage : s ≡ Usage → LacksScript (with_name ws)
   pub read : s ≡ ReadFault → reads
   pub write : s ≡ WriteFault → writes
   pub stopped : s ≡ Stopped → stops

@@ -22,9 +22,7 @@ use std::sync::ledger::Ledger;
 fn words_after_name(alloc: Global, all: Args) -> Result<Vec<String>, AllocError>
     ensures { IfOk result (λ v. map string_bytes v.items ≡ words_behind (map string_bytes (into_iter_items all))) }
 {
-    let mut rest = all;
-    let _name = rest.next();
-    rest.collect(alloc)
+    all.skip(1).collect(alloc)
 }
 
 /// The status of a run whose arguments could not be had.

@@ -1,6 +1,6 @@
 //! One run of `dtq`: from the words of its command line to what is put, and a status.
 //!
-//! - `run` is the whole program over any files and sinks.
+//! - `running` has `run`, the whole program over any files and sinks.
 //! - `words` reads the words by the crate `clap`, and has the law on plain words.
 //! - `check` reads a script and does no more; `telling` puts the lines that `run` itself tells.
 //! - `Status` is how a run ended, with the number that the program ends with.
@@ -14,12 +14,12 @@
 #![tactic(auto)]
 
 mod check;
-mod run;
+mod running;
 mod status;
 mod telling;
 mod words;
 
-pub use run::run;
+pub use running::run;
 pub use status::Status;
 pub use words::takes_plain_words;
 

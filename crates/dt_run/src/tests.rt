@@ -2,7 +2,7 @@
 //! that fails, a script that is too long, and want of memory.
 ghost use Rattle.std.specs.Prelude.{◌≡◌, ◌<◌};
 
-use crate::run::run;
+use crate::running::run;
 use crate::status::Status;
 use dt_base::{Steps, Text};
 use dt_world::{Files, MemFiles, MemSink};

@@ -2,7 +2,7 @@
 use Rattle.std.proofs.Common.{Err, ap}
 use Rattle.dt_world.specs.Causes.{Rose}
 use Rattle.dt_run.proofs.Stops.{absent_stops, long_stops}
-use Rattle.dt_run.proofs.run.run_asked.Goals as goal
+use Rattle.dt_run.proofs.running.run_asked.Goals as goal
 
 pub returns-in-Err-Absent-clause-stopped : goal.returns-in-Err-Absent-clause-stopped
 returns-in-Err-Absent-clause-stopped g c =

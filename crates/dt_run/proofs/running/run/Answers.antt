@@ -5,7 +5,7 @@ use Rattle.dt_run.specs.Given.{texts}
 use Rattle.dt_run.specs.Run.{Answers, AskedCut, AskedEnds, Told}
 use Rattle.dt_run.specs.Words.{all_asked, asked}
 use Rattle.dt_run.proofs.Ends.{nothing_put}
-use Rattle.dt_run.proofs.run.run.Goals as goal
+use Rattle.dt_run.proofs.running.run.Goals as goal
 
 pub returns-in-Ok-clause-headline : goal.returns-in-Ok-clause-headline
 returns-in-Ok-clause-headline g c =

@@ -2,7 +2,7 @@
 use Rattle.std.proofs.Common.{◌∙◌, sym}
 use Rattle.dt_run.proofs.Ends.{ended_early, ran}
 use Rattle.dt_run.proofs.Stops.{ended_stops}
-use Rattle.dt_run.proofs.run.run_bytes.Goals as goal
+use Rattle.dt_run.proofs.running.run_bytes.Goals as goal
 
 pub returns-in-Ok-clause-ends : goal.returns-in-Ok-clause-ends
 returns-in-Ok-clause-ends g c = λ told. ran c.args.bytes.now _ _ _ _ c.new-session.ensures.state (c.in-Ok.ensures.done told)
