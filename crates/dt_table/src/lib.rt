@@ -9,11 +9,12 @@
 //!   `reserve_change` has made the room; `preview` gives the table that it would leave. `rename` gives
 //!   columns other names.
 //!
-//! It stands on `dt_base`, `dt_model` and `na_vector`. It promises that the names of every table are
-//! distinct and not empty, that rows, cells and columns are within their limits (`IsTable`), and that
-//! each call answers by the parts of the table that contracts see; `plain` is the plain reading of
-//! these parts, row by row. Making is linear in the names, copying in the cells, and `place` looks at
-//! the names in order.
+//! It stands on `dt_base`, `dt_model`, `order_model` and `na_vector`. It promises that the names of
+//! every table are distinct and not empty, that rows, cells and columns are within their limits, that
+//! the key is true and each index has the rows in the order of its columns (`IsTable`), and that each
+//! call answers by the parts of the table that contracts see; `plain` is the plain reading of these
+//! parts, row by row. Making is linear in the names, copying in the cells, and `place` looks at the
+//! names in order.
 #![tactic(auto)]
 
 mod apply;

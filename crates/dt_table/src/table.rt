@@ -18,7 +18,9 @@ use std::sync::ledger::Ledger;
 /// A table: named columns of one length, a key, indices, and a number of column slots.
 ///
 /// Its names are distinct and none is empty; it has at most 16,777,216 rows and 67,108,864 cells,
-/// and no more columns than slots. Contracts see all its parts, and `plain` reads them row by row.
+/// and no more columns than slots. Over the columns of its key no row stands above the next one, and
+/// each index has the rows in the order of its columns. Contracts see all its parts, and `plain`
+/// reads them row by row.
 #[derive(Drop)]
 pub struct Table {
     names: Vec<ColName>,
