@@ -1,7 +1,7 @@
 use std::alloc::{AllocError, AllocFailed};
 
 /// Why a file of cases was not read.
-#[derive(Debug, Drop)]
+#[derive(Drop)]
 pub enum CasesFail {
     /// A line, counted from 1, and what is wrong there. Of a case as a whole it is the line that
     /// begins it, and of the whole file 0.
@@ -10,7 +10,7 @@ pub enum CasesFail {
 }
 
 /// What is wrong with a file of cases.
-#[derive(Clone, Copy, Debug, PartialEq, Eq)]
+#[derive(Clone, Copy)]
 pub enum Wrong {
     NotText,
     NotAMark,

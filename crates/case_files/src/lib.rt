@@ -39,6 +39,3 @@ mod reading;
 pub use case::{Case, SCRIPT_NAME};
 pub use fail::{CasesFail, Wrong};
 pub use reading::read_cases;
-
-#[cfg(test)]
-mod tests;

@@ -22,6 +22,3 @@ mod words;
 pub use running::run;
 pub use status::Status;
 pub use words::takes_plain_words;
-
-#[cfg(test)]
-mod tests;

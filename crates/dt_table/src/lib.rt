@@ -31,6 +31,3 @@ pub use change::{Change, Part};
 pub use index::Index;
 pub use make::MakeFail;
 pub use table::Table;
-
-#[cfg(test)]
-mod tests;

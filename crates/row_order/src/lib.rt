@@ -13,6 +13,3 @@ mod sorted;
 
 pub use ordering::{SortCol, order};
 pub use sorted::is_sorted;
-
-#[cfg(test)]
-mod tests;
