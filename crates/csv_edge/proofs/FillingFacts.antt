@@ -22,17 +22,17 @@ use Rattle.run_model.specs.CsvCells.{is_missing, suits, field_cell, fields_vecto
 
 -- ---- one field
 
-either : (a b : Bool) → (a || b) ≡ true → (a ≡ true) ⊎ (b ≡ true)
+pub either : (a b : Bool) → (a || b) ≡ true → (a ≡ true) ⊎ (b ≡ true)
 either true b e = inl refl
 either false b e = inr e
 
 -- what is so of a list's texts
-abbrev EachIs : (List ℕ → Type 0) → List (List ℕ) → Type 0
+abbrev pub EachIs : (List ℕ → Type 0) → List (List ℕ) → Type 0
 EachIs P [] = Unit {0}
 EachIs P (w ∷ ws) = P w × EachIs P ws
 
 -- is so of a text that is one of them
-any_is : (P : List ℕ → Type 0) (f : List ℕ) (ws : List (List ℕ)) → EachIs P ws → list_any (bytes_eq f) ws ≡ true → P f
+pub any_is : (P : List ℕ → Type 0) (f : List ℕ) (ws : List (List ℕ)) → EachIs P ws → list_any (bytes_eq f) ws ≡ true → P f
 any_is P f [] h e = absurd (true≢false (sym e))
 any_is P f (w ∷ ws) h e = elim (either (bytes_eq f w) (list_any (bytes_eq f) ws) e) [
   | inl one ↦ subst P (sym (same_text f w one)) h.0
@@ -40,7 +40,7 @@ any_is P f (w ∷ ws) h e = elim (either (bytes_eq f w) (list_any (bytes_eq f) w
 ]
 
 -- a field that tells no type is empty or NA
-missing_is : (P : List ℕ → Type 0) → P [] → P (codes "NA") → (f : List ℕ) → is_missing f ≡ true → P f
+pub missing_is : (P : List ℕ → Type 0) → P [] → P (codes "NA") → (f : List ℕ) → is_missing f ≡ true → P f
 missing_is P empty na f e = elim (either (bytes_eq f []) (bytes_eq f (codes "NA")) e) [
   | inl one ↦ subst P (sym (same_text f [] one)) empty
   | inr one ↦ subst P (sym (same_text f (codes "NA") one)) na
@@ -58,15 +58,15 @@ missing_suits_lgl f e = rw e refl
 missing_suits_int : (f : List ℕ) → is_missing f ≡ true → suits ty.Int f ≡ true
 missing_suits_int f e = rw e refl
 
-named : (a b : Bool) → is_some (if a then Some true else (if b then Some false else None)) ≡ true → (a ≡ true) ⊎ (b ≡ true)
+pub named : (a b : Bool) → is_some (if a then Some true else (if b then Some false else None)) ≡ true → (a ≡ true) ⊎ (b ≡ true)
 named true b e = inl refl
 named false true e = inr refl
 named false false e = absurd (true≢false (sym e))
 
-abbrev trues : List (List ℕ)
+abbrev pub trues : List (List ℕ)
 trues = codes "TRUE" ∷ codes "true" ∷ codes "True" ∷ []
 
-abbrev falses : List (List ℕ)
+abbrev pub falses : List (List ℕ)
 falses = codes "FALSE" ∷ codes "false" ∷ codes "False" ∷ []
 
 -- a truth word is no integer

@@ -10,3 +10,4 @@ pub mod Sizes
 pub mod TableFacts
 pub mod TextFacts
 pub mod WriteFacts
+pub mod WordFacts

@@ -1,13 +1,13 @@
-ghost use Rattle.std.specs.Prelude.{◌≡◌, ◌<◌, None, true, false, IfOk, IfErr, MatchOption, length};
+ghost use Rattle.std.specs.Prelude.{◌≡◌, None, true, false, IfOk, IfErr, MatchOption};
 ghost use Rattle.std.specs.List.{list_all};
 ghost use Rattle.std.specs.Str.{is_utf8};
 ghost use Rattle.csv.specs.Records.{fields_of};
 ghost use Rattle.csv_edge.specs.Faults.{Tells};
-ghost use Rattle.run_model.specs.Csv.{header_fault, row_fault};
+ghost use Rattle.run_model.specs.Csv.{header_fault};
 
 use crate::CsvFail;
 use csv::{ByteRecord, StringRecord};
-use dt_base::limits::{MAX_COLUMNS, MAX_ROWS};
+use dt_base::limits::MAX_COLUMNS;
 
 /// The header as texts, or its fault: too many columns, then bytes that are not UTF-8.
 pub(crate) fn checked_header(raw: ByteRecord) -> Result<StringRecord, CsvFail>
@@ -19,30 +19,6 @@ pub(crate) fn checked_header(raw: ByteRecord) -> Result<StringRecord, CsvFail>
         return Err(CsvFail::TooManyColumns);
     }
     texts(raw).ok_or(CsvFail::NotUtf8 { at: 1 })
-}
-
-/// A record below the header as texts, or its fault: one row too many, then another number of
-/// fields than the header's, then bytes that are not UTF-8. So many records below the header stand
-/// before it.
-pub(crate) fn checked_row(
-    raw: ByteRecord,
-    width: usize,
-    before: usize,
-) -> Result<StringRecord, CsvFail>
-    ensures fields { IfOk result (λ row. fields_of row ≡ fields_of raw) }
-    ensures right { IfOk result (λ _. row_fault width before (fields_of raw) ≡ None) }
-    ensures width { IfOk result (λ row. length (fields_of row) ≡ width) }
-    ensures room { IfOk result (λ _. before < MAX_ROWS) }
-    ensures refused { IfErr result (λ e. Tells e (row_fault width before (fields_of raw))) }
-{
-    if before >= MAX_ROWS {
-        return Err(CsvFail::TooManyRows);
-    }
-    let at = before as u64 + 2;
-    if raw.len() != width {
-        return Err(CsvFail::Ragged { at });
-    }
-    texts(raw).ok_or(CsvFail::NotUtf8 { at })
 }
 
 /// The same record as texts, if each field is UTF-8.

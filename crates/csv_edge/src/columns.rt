@@ -1,18 +1,20 @@
-ghost use Rattle.std.specs.Prelude.{◌≡◌, ◌<◌, ◌≤◌, ◌∷◌, ℕ, [], List, None, false, true, IfOk, OnOk, IfErr, length, vec_len, slice_index_or};
+ghost use Rattle.std.specs.Prelude.{◌≡◌, ◌<◌, ◌∷◌, ℕ, [], List, None, false, true, IfOk, OnOk, IfErr, length, vec_len, slice_index_or};
+ghost use Rattle.std.specs.List.{list_all};
+ghost use Rattle.std.specs.Str.{is_utf8};
 ghost use Rattle.csv.specs.Records.{fields_of};
-ghost use Rattle.csv_edge.specs.Columns.{Gathered, below};
+ghost use Rattle.csv_edge.specs.Columns.{AllGain, Gathered, below};
 ghost use Rattle.csv_edge.specs.Faults.{Tells};
 ghost use Rattle.csv_edge.specs.Filling.{Gains};
 ghost use Rattle.csv_edge.specs.Left.{left, IsOpen};
 ghost use Rattle.csv_edge.specs.declared.filling.Filling.{Filling as Gathering};
 ghost use Rattle.csv_edge.specs.declared.filling.Filling.TheVariants.{Missing};
-ghost use Rattle.run_model.specs.Csv.{rows_fault, fields_at};
+ghost use Rattle.run_model.specs.Csv.{row_fault, rows_fault};
 
 use crate::CsvFail;
-use crate::check::checked_row;
 use crate::filling::{Filling, is_late, take};
 use crate::records::{next_record, open};
-use csv::{ByteRecord, Reader, StringRecord};
+use csv::{ByteRecord, Reader};
+use dt_base::limits::MAX_ROWS;
 use std::alloc::{AllocError, Global};
 
 /// The columns of all records that are left, so many as the header has fields, or the first fault of
@@ -49,33 +51,55 @@ fn empty_columns(alloc: Global, width: usize) -> Result<Vec<Filling>, AllocError
     Ok(columns)
 }
 
-/// The field at a place, counted from 0.
-pub(crate) fn field_at(row: &StringRecord, i: usize) -> &str
-    requires { i < length (fields_of row.now) }
-    ensures { result.now ≡ slice_index_or (fields_of row.now) i [] }
-{
-    match row.get(i) {
-        Some(field) => field,
-        None => unreachable!(),
-    }
-}
-
-/// Gives the fields of a record to the columns, one to each.
+/// Gives the fields of a record to the columns, one to each, and tells whether all of them are
+/// UTF-8. Where one is not, the columns hold those before it.
 fn push_row(
     alloc: Global,
     columns: &mut [Filling],
-    row: &StringRecord,
+    row: &ByteRecord,
     again: bool,
-) -> Result<(), AllocError>
+) -> Result<bool, AllocError>
     requires { length (fields_of row.now) ≡ length columns.old }
-    ensures { OnOk result ((c : ℕ) (d : Gathering) → c < length columns.old → Gains again (slice_index_or columns.old c d) (slice_index_or columns.new c d) (slice_index_or (fields_of row.now) c [] ∷ [])) }
+    ensures text { IfOk result (λ all. all ≡ list_all is_utf8 (fields_of row.now)) }
+    ensures fields { IfOk result (λ all. all ≡ true → AllGain again columns.old columns.new (fields_of row.now ∷ [])) }
 {
-    for c in 0..columns.len() {
-        let field = field_at(row, c);
-        let column = &mut columns[c];
-        take(alloc, column, field, again)?;
+    let mut c: usize = 0;
+    while let Some(field) = row.get(c) {
+        if !take(alloc, &mut columns[c], field, again)? {
+            return Ok(false);
+        }
+        c += 1;
     }
-    Ok(())
+    Ok(true)
+}
+
+/// Gives the fields of a record below the header to the columns, or tells its fault: one row too
+/// many, then another number of fields than the header's, then bytes that are not UTF-8. So many
+/// records below the header stand before it.
+fn take_record(
+    alloc: Global,
+    columns: &mut [Filling],
+    row: &ByteRecord,
+    before: usize,
+    again: bool,
+) -> Result<(), CsvFail>
+    ensures right { OnOk result (row_fault (length columns.old) before (fields_of row.now) ≡ None) }
+    ensures room { OnOk result (before < MAX_ROWS) }
+    ensures fields { OnOk result (AllGain again columns.old columns.new (fields_of row.now ∷ [])) }
+    ensures refused { IfErr result (λ e. Tells e (row_fault (length columns.old) before (fields_of row.now))) }
+{
+    if before >= MAX_ROWS {
+        return Err(CsvFail::TooManyRows);
+    }
+    let at = before as u64 + 2;
+    if row.len() != columns.len() {
+        return Err(CsvFail::Ragged { at });
+    }
+    if push_row(alloc, columns, row, again)? {
+        Ok(())
+    } else {
+        Err(CsvFail::NotUtf8 { at })
+    }
 }
 
 /// Gives the fields of all records that are left to the columns, or tells the first fault of these
@@ -88,15 +112,13 @@ fn read_rows(
 ) -> Result<(), CsvFail>
     requires { IsOpen reader.old }
     ensures right { OnOk result (rows_fault (length columns.old) 0 (left reader.old) ≡ None) }
-    ensures fields { OnOk result ((c : ℕ) (d : Gathering) → c < length columns.old → Gains again (slice_index_or columns.old c d) (slice_index_or columns.new c d) (fields_at c (left reader.old))) }
+    ensures fields { OnOk result (AllGain again columns.old columns.new (left reader.old)) }
     ensures refused { IfErr result (λ e. Tells e (rows_fault (length columns.old) 0 (left reader.old))) }
 {
-    let mut raw = ByteRecord::new(alloc);
+    let mut row = ByteRecord::new(alloc);
     let mut before: usize = 0;
-    while next_record(reader, &mut raw)? {
-        let row = checked_row(raw, columns.len(), before)?;
-        push_row(alloc, columns, &row, again)?;
-        raw = row.into_byte_record();
+    while next_record(reader, &mut row)? {
+        take_record(alloc, columns, &row, before, again)?;
         before += 1;
     }
     Ok(())
@@ -104,7 +126,7 @@ fn read_rows(
 
 /// Reads the records below the header once more, if a column was told late.
 fn read_late(alloc: Global, bytes: &[u8], columns: &mut [Filling]) -> Result<(), CsvFail>
-    ensures fields { OnOk result ((c : ℕ) (d : Gathering) → c < length columns.old → Gains true (slice_index_or columns.old c d) (slice_index_or columns.new c d) (fields_at c (below bytes.now))) }
+    ensures fields { OnOk result (AllGain true columns.old columns.new (below bytes.now)) }
     ensures refused { IfErr result (λ e. Tells e (rows_fault (length columns.old) 0 (below bytes.now))) }
 {
     if !has_late(columns) {

@@ -1,11 +1,12 @@
 ghost use Rattle.std.specs.Prelude.{◌≡◌, ◌+◌, ◌<◌, ◌++◌, ◌∷◌, ℕ, List, [], All, IfOk, OnOk, true, false, map, replicate};
+ghost use Rattle.std.specs.Str.{is_utf8};
 ghost use Rattle.csv_edge.specs.Filling.{Gains, goes_on};
 ghost use Rattle.csv_edge.specs.declared.filling.Filling.TheVariants as so_far;
 ghost use Rattle.dt_base.specs.declared.cell.ColType.TheVariants as ty;
 ghost use Rattle.na_vector.specs.Words.{lgl_cell, int_cell, text_cell, IsLglWord};
 ghost use Rattle.run_model.specs.CsvCells as cells;
 
-use crate::typed::{int_word, is_missing, lgl_word, text_word};
+use crate::typed::{int_word, is_missing, is_text, lgl_word, text_of, text_word};
 use dt_base::Text;
 use dt_base::limits::NA_WORD;
 use std::alloc::{AllocError, Global};
@@ -24,15 +25,16 @@ pub(crate) enum Filling {
     Late(Vec<Option<Text>>),
 }
 
-/// Takes the next field of a column: its type and its word, or, where the records are read again,
-/// the text of a column that was told late.
+/// Takes the next field of a column, and tells whether it is UTF-8: its type and its word, or, where
+/// the records are read again, the text of a column that was told late.
 pub(crate) fn take(
     alloc: Global,
     column: &mut Filling,
-    field: &str,
+    field: &[u8],
     again: bool,
-) -> Result<(), AllocError>
-    ensures { OnOk result (Gains again column.old column.new (field.now ∷ [])) }
+) -> Result<bool, AllocError>
+    ensures text { IfOk result (λ text. text ≡ is_utf8 field.now) }
+    ensures gains { IfOk result (λ text. text ≡ true → Gains again column.old column.new (field.now ∷ [])) }
 {
     if again {
         take_text(alloc, column, field)
@@ -52,40 +54,60 @@ pub(crate) fn is_late(column: &Filling) -> bool
 }
 
 /// Adds the text of a field to a column that was told late, and leaves any other.
-fn take_text(alloc: Global, column: &mut Filling, field: &str) -> Result<(), AllocError>
-    ensures { OnOk result (Gains true column.old column.new (field.now ∷ [])) }
+fn take_text(alloc: Global, column: &mut Filling, field: &[u8]) -> Result<bool, AllocError>
+    ensures text { IfOk result (λ text. text ≡ is_utf8 field.now) }
+    ensures gains { IfOk result (λ text. text ≡ true → Gains true column.old column.new (field.now ∷ [])) }
 {
     match column {
-        Filling::Late(texts) => push_text(alloc, texts, field),
-        Filling::Missing(_) | Filling::Lgl(_) | Filling::Int(_) | Filling::Chr(_) => Ok(()),
+        Filling::Late(texts) => push_chr(alloc, texts, field),
+        Filling::Missing(_) | Filling::Lgl(_) | Filling::Int(_) | Filling::Chr(_) => {
+            Ok(is_text(field))
+        }
     }
 }
 
 /// Adds the word of a field to a column that it suits; the column changes its type where it does
 /// not.
-fn take_word(alloc: Global, column: &mut Filling, field: &str) -> Result<(), AllocError>
-    ensures { OnOk result (Gains false column.old column.new (field.now ∷ [])) }
+fn take_word(alloc: Global, column: &mut Filling, field: &[u8]) -> Result<bool, AllocError>
+    ensures text { IfOk result (λ text. text ≡ is_utf8 field.now) }
+    ensures gains { IfOk result (λ text. text ≡ true → Gains false column.old column.new (field.now ∷ [])) }
 {
-    if !push_word(alloc, column, field)? {
-        let changed = changed(alloc, column, field)?;
-        drop(mem::replace(column, changed));
+    if push_word(alloc, column, field)? {
+        return Ok(true);
     }
-    Ok(())
+    change(alloc, column, field)
 }
 
-/// Adds the word of a field that suits the column's type, and tells whether it does.
-fn push_word(alloc: Global, column: &mut Filling, field: &str) -> Result<bool, AllocError>
-    ensures suits { IfOk result (λ suited. suited ≡ goes_on column.old field.now) }
-    ensures gains { IfOk result (λ suited. suited ≡ true → Gains false column.old column.new (field.now ∷ [])) }
-    ensures same { IfOk result (λ suited. suited ≡ false → column.new ≡ column.old) }
+/// Adds the word of a field that suits the column's type, and tells whether it does. What is a word
+/// of another type than text is UTF-8, so only texts are looked at for that.
+fn push_word(alloc: Global, column: &mut Filling, field: &[u8]) -> Result<bool, AllocError>
+    ensures text { IfOk result (λ took. took ≡ true → is_utf8 field.now ≡ true) }
+    ensures gains { IfOk result (λ took. took ≡ true → Gains false column.old column.new (field.now ∷ [])) }
+    ensures other { IfOk result (λ took. took ≡ false → is_utf8 field.now ≡ true → goes_on column.old field.now ≡ false) }
+    ensures same { IfOk result (λ took. took ≡ false → column.new ≡ column.old) }
 {
     match column {
-        Filling::Missing(count) => count_missing(count, field.as_bytes()),
-        Filling::Lgl(words) => push_lgl(words, field.as_bytes()),
-        Filling::Int(words) => push_int(words, field.as_bytes()),
+        Filling::Missing(count) => count_missing(count, field),
+        Filling::Lgl(words) => push_lgl(words, field),
+        Filling::Int(words) => push_int(words, field),
         Filling::Chr(texts) => push_chr(alloc, texts, field),
-        Filling::Late(_) => Ok(true),
+        Filling::Late(_) => Ok(is_text(field)),
     }
+}
+
+/// Changes the type of a column behind a field that does not suit it, where the field is UTF-8.
+#[cold]
+fn change(alloc: Global, column: &mut Filling, field: &[u8]) -> Result<bool, AllocError>
+    requires { is_utf8 field.now ≡ true → goes_on column.old field.now ≡ false }
+    ensures text { IfOk result (λ text. text ≡ is_utf8 field.now) }
+    ensures gains { IfOk result (λ text. text ≡ true → Gains false column.old column.new (field.now ∷ [])) }
+{
+    let Some(text) = text_of(field) else {
+        return Ok(false);
+    };
+    let changed = changed(alloc, column, text)?;
+    drop(mem::replace(column, changed));
+    Ok(true)
 }
 
 /// Counts a field that tells no type. A count that no number holds is want of memory.
@@ -131,12 +153,18 @@ fn push_int(words: &mut Vec<i64>, field: &[u8]) -> Result<bool, AllocError>
     Ok(true)
 }
 
-/// Adds the text of a field to a column of texts, which any field suits.
-fn push_chr(alloc: Global, texts: &mut Vec<Option<Text>>, field: &str) -> Result<bool, AllocError>
-    ensures suits { IfOk result (λ suited. suited ≡ true) }
-    ensures cells { OnOk result (map text_cell texts.new.items ≡ map text_cell texts.old.items ++ cells.field_cell ty.Chr field.now ∷ []) }
+/// Adds the text of a field to a column of texts, which any field suits, and tells whether it is
+/// UTF-8.
+#[inline(never)]
+fn push_chr(alloc: Global, texts: &mut Vec<Option<Text>>, field: &[u8]) -> Result<bool, AllocError>
+    ensures text { IfOk result (λ took. took ≡ is_utf8 field.now) }
+    ensures cells { IfOk result (λ took. took ≡ true → map text_cell texts.new.items ≡ map text_cell texts.old.items ++ cells.field_cell ty.Chr field.now ∷ []) }
+    ensures same { IfOk result (λ took. took ≡ false → texts.new ≡ texts.old) }
 {
-    push_text(alloc, texts, field)?;
+    let Some(text) = text_of(field) else {
+        return Ok(false);
+    };
+    push_text(alloc, texts, text)?;
     Ok(true)
 }
 

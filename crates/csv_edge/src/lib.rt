@@ -10,7 +10,8 @@
 //! The words of logical and integer columns are made as their records are read, so that no field is
 //! kept, and texts are kept where a column's first field is a text. A column that turns out to be of
 //! texts behind other fields, as 007 before x, makes the records be read once more. So reading is
-//! linear in the bytes, and its memory is the table and a record.
+//! linear in the bytes, and its memory is the table and a record. A field that is a word of
+//! logicals or integers is ASCII, so only texts are looked at for UTF-8.
 #![tactic(auto)]
 
 mod check;

@@ -1,11 +1,10 @@
-ghost use Rattle.std.specs.Prelude.{◌≡◌, ◌<◌, ◌^◌, ◌++◌, ◌∷◌, [], IfOk, OnOk, length};
+ghost use Rattle.std.specs.Prelude.{◌≡◌, ◌<◌, ◌^◌, ◌++◌, ◌∷◌, [], IfOk, OnOk, length, slice_index_or};
 ghost use Rattle.std.specs.Cmp.Lexicographic.{pointwise};
 ghost use Rattle.std.specs.Str.{bytes_eq};
 ghost use Rattle.csv.specs.Records.{fields_of};
 ghost use Rattle.csv_edge.specs.Taken.{TakenUpTo, TakenBelow};
 ghost use Rattle.run_model.specs.CsvNames as file;
 
-use crate::columns::field_at;
 use csv::StringRecord;
 use dt_base::{ColName, Text, Warn, Warns};
 use std::alloc::{AllocError, Global};
@@ -119,6 +118,17 @@ pub(crate) fn column_names(alloc: Global, header: &StringRecord) -> Result<Vec<C
         push_new(alloc, &mut names, base)?;
     }
     Ok(names.into_list())
+}
+
+/// The header of a column, counted from 0.
+fn field_at(header: &StringRecord, i: usize) -> &str
+    requires { i < length (fields_of header.now) }
+    ensures { result.now ≡ slice_index_or (fields_of header.now) i [] }
+{
+    match header.get(i) {
+        Some(field) => field,
+        None => unreachable!(),
+    }
 }
 
 /// The warning where a name is not its header.

@@ -6,8 +6,8 @@ use Rattle.run_model.specs.Csv.{rows_fault, fields_at}
 use Rattle.csv_edge.proofs.columns.read_rows.Given as goal
 
 -- what is left has the fault that all have, and the columns gain the fields of what is left
-abbrev pub invariant-loop-raw : goal.invariant-loop-raw
-invariant-loop-raw l =
+abbrev pub invariant-loop-row : goal.invariant-loop-row
+invariant-loop-row l =
     IsOpen l.reader
     × (rows_fault (length l.fn.columns) l.before (left l.reader) ≡ rows_fault (length l.fn.columns) 0 (left l.fn.reader))
     × ((c : ℕ) (d after : Filling) → c < length l.fn.columns
@@ -15,5 +15,5 @@ invariant-loop-raw l =
     × (l.before ≤ 16777216)
 
 -- fewer records are left each time
-abbrev pub decreases-loop-raw : goal.decreases-loop-raw
-decreases-loop-raw l = length (left l.reader)
+abbrev pub decreases-loop-row : goal.decreases-loop-row
+decreases-loop-row l = length (left l.reader)
