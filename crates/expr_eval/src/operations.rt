@@ -1,4 +1,4 @@
-ghost use Rattle.std.specs.Prelude.{◌≡◌, Ok, codes, IfErr};
+ghost use Rattle.std.specs.Prelude.{◌≡◌, ◌≤◌, ◌+◌, Ok, codes, length, IfErr};
 ghost use Rattle.eval_fail.specs.Answers.{AnswersAs, IsOwn};
 ghost use Rattle.dt_base.specs.Warns.{both_warns};
 ghost use Rattle.dt_model.specs.Operations.{binary, unary, chosen, contained};
@@ -46,6 +46,7 @@ fn arith_value<L: Ledger>(
 ) -> Result<Column, EvalFail>
     ensures answer { AnswersAs vector_of (op_result (op_word op) (binary op a.now.vector b.now.vector)) result }
     ensures own { IfErr result IsOwn }
+    ensures touches { steps.new ≤ steps.old + (length a.now.vector.cells + length b.now.vector.cells) }
 {
     match binary(alloc, op, a, b, steps) {
         Ok(column) => Ok(column),
@@ -61,6 +62,7 @@ fn member_value<L: Ledger>(
 ) -> Result<Column, EvalFail>
     ensures answer { AnswersAs vector_of (Ok (contained a.now.vector b.now.vector)) result }
     ensures own { IfErr result IsOwn }
+    ensures touches { steps.new ≤ steps.old + (length a.now.vector.cells + length b.now.vector.cells) }
 {
     match contained(alloc, a, b, steps) {
         Ok(column) => Ok(column),
@@ -78,6 +80,7 @@ fn tail_value<L: Ledger>(
 ) -> Result<Column, EvalFail>
     ensures answer { AnswersAs vector_of (tail_value op a.now.vector b.now.vector) result }
     ensures own { IfErr result IsOwn }
+    ensures touches { steps.new ≤ steps.old + (length a.now.vector.cells + length b.now.vector.cells) }
 {
     match op {
         BinOp::Arith(op) => arith_value(alloc, op, a, b, steps),
@@ -86,8 +89,9 @@ fn tail_value<L: Ledger>(
     }
 }
 
-/// What a two-sided operator gives for two values, with the warnings of both.
-pub fn met<L: Ledger>(
+/// What a two-sided operator gives for two values, with the warnings of both. It touches each cell of
+/// both once at most.
+fn of_both<L: Ledger>(
     alloc: Global,
     op: BinOp,
     left: &Operand<'_>,
@@ -96,12 +100,32 @@ pub fn met<L: Ledger>(
 ) -> Result<Valued, EvalFail>
     ensures answer { AnswersAs valued_of (met op (operand_of left.now) (operand_of right.now)) result }
     ensures own { IfErr result IsOwn }
+    ensures touches { steps.new ≤ steps.old
+        + (length (operand_of left.now).vector.cells + length (operand_of right.now).vector.cells) }
 {
     let column = tail_value(alloc, op, left.column(), right.column(), steps)?;
     Ok(Valued {
         column,
         warns: left.warns().both(right.warns()),
     })
+}
+
+/// The same, of values that end here.
+pub fn met<'a, L: Ledger>(
+    alloc: Global,
+    op: BinOp,
+    left: Operand<'a>,
+    right: Operand<'a>,
+    steps: &mut Steps<L>,
+) -> Result<Operand<'a>, EvalFail>
+    ensures answer { AnswersAs operand_of (met op (operand_of left.entry) (operand_of right.entry)) result }
+    ensures own { IfErr result IsOwn }
+    ensures touches { steps.new ≤ steps.old
+        + (length (operand_of left.entry).vector.cells + length (operand_of right.entry).vector.cells) }
+{
+    let value = of_both(alloc, op, &left, &right, steps);
+    drop((left, right));
+    Ok(Operand::Own(value?))
 }
 
 #[tactic(auto, using(crate::proofs::Refused::refused_told))]

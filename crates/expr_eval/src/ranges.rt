@@ -71,6 +71,7 @@ fn end_of<L: Ledger>(
     ensures end { Answers (end_of column.now.vector) result }
     ensures inside { IfOk result (λ o. IfSome o IsNumber) }
     ensures own { IfErr result IsOwn }
+    ensures touches { steps.new ≤ steps.old + length column.now.vector.cells }
 {
     let n = column.len();
     if n != 1 {
@@ -210,6 +211,7 @@ pub fn range_value<L: Ledger>(
 ) -> Result<Column, EvalFail>
     ensures answer { AnswersAs vector_of (range a.now.vector b.now.vector) result }
     ensures own { IfErr result IsOwn }
+    ensures touches { steps.new ≤ steps.old + (length a.now.vector.cells + length b.now.vector.cells) }
 {
     range_type(alloc, a.kind(), b.kind())?;
     let x = end_of(alloc, a, steps)?;

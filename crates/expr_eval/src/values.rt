@@ -2,7 +2,7 @@ ghost use Rattle.std.specs.Prelude.{◌≡◌, ◌+◌, ◌<◌, ◌≤◌, true
 ghost use Rattle.eval_fail.specs.Answers.{AnswersAs, IsOwn};
 ghost use Rattle.expr_eval.specs.Scope.{env_of, IsScope};
 ghost use Rattle.expr_eval.specs.Slots.{operand_of, slot_of};
-ghost use Rattle.expr_eval.specs.Touches.{is_literal, is_literal_argument, are_literals, joined_cells, call_cells, cells_meant, allowance, Within, IsMadeCell, IsOneCell, still_touched};
+ghost use Rattle.expr_eval.specs.Touches.{is_literal, is_literal_argument, are_literals, joined_cells, call_cells, cells_meant, allowance, Within, IsMadeCell, IsOneCell, still_touched, tail_allowance};
 ghost use Rattle.session_model.specs.Expression.{names_in, arg_at, flag_slot, value_tail, value_tails, signed, given, slot_as, slot_at, slots, each_argument, combined, value_vectors, value_kind, value_call};
 ghost use Rattle.session_model.specs.Meaning.{meaning, arg_meaning, tail_meaning, value_in};
 ghost use Rattle.func_table.specs.Calls.{arity_of, func_of, is_flag, kind_of};
@@ -141,9 +141,10 @@ fn eval_tail<'a, V: Vars, L: Ledger>(
     requires { IsScope s.now }
     ensures answer { AnswersAs operand_of (value_tail (env_of V.bound s.now) (operand_of left.entry) (tail_meaning t.now)) result }
     ensures own { IfErr result IsOwn }
+    ensures touches { Within (tail_allowance (operand_of left.entry) t.now (env_of V.bound s.now)) steps.old steps.new }
 {
     let right = eval_operand(alloc, &t.arg, s, steps)?;
-    Ok(Operand::Own(met(alloc, t.op, &left, &right, steps)?))
+    met(alloc, t.op, left, right, steps)
 }
 
 #[cycle(eval)]
