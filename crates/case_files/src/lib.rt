@@ -4,6 +4,7 @@
 //! - `read_cases` reads a file of them, line by line: `mark` says what one line is, `draft` gathers
 //!   the parts of a case and looks at it as a whole.
 //! - `CasesFail` and `Wrong`: the line that is no such file's, and why.
+//! - `compare` tells a part of a run that differs from what its case wants.
 //!
 //! A file is UTF-8, and each of its lines is one of these; any other is refused, with its number, so
 //! that no misspelt line passes for a remark:
@@ -35,7 +36,9 @@ mod draft;
 mod fail;
 mod mark;
 mod reading;
+mod told;
 
 pub use case::{Case, SCRIPT_NAME};
 pub use fail::{CasesFail, Wrong};
 pub use reading::read_cases;
+pub use told::compare;

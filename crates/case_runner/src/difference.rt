@@ -1,7 +1,7 @@
 //! What a run left, held against what its case wants.
 use crate::ended::Ended;
 use crate::folder::Folder;
-use case_files::{Case, SCRIPT_NAME};
+use case_files::{Case, SCRIPT_NAME, compare};
 use dt_base::Text;
 use std::alloc::{AllocError, Global};
 
@@ -27,23 +27,6 @@ fn compare_status(alloc: Global, told: &mut String, has: u8, wants: u8) -> Resul
     }
     let line = format!(in alloc; "the status is {has} and not {wants}\n")?;
     told.push_str(line.as_str())
-}
-
-/// Tells both texts, if they differ.
-fn compare(
-    alloc: Global,
-    told: &mut String,
-    what: &str,
-    has: &[u8],
-    wants: &[u8],
-) -> Result<(), AllocError> {
-    if has == wants {
-        return Ok(());
-    }
-    let has = String::from_utf8_lossy(alloc, has)?;
-    let wants = String::from_utf8_lossy(alloc, wants)?;
-    let lines = format!(in alloc; "{what} has\n{has}and not\n{wants}")?;
-    told.push_str(lines.as_str())
 }
 
 /// Compares each file that must be there after the run, and finds those that must not.

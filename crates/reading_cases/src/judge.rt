@@ -1,7 +1,7 @@
 //! What the script of a case is read to, held against what the case wants.
 use crate::tokens::told_tokens;
 use crate::trees::told_trees;
-use case_files::{Case, SCRIPT_NAME};
+use case_files::{Case, SCRIPT_NAME, compare};
 use dt_base::limits::MAX_SCRIPT_BYTES;
 use std::alloc::{AllocError, Global};
 
@@ -71,23 +71,6 @@ fn told_case(alloc: Global, case: &Case) -> Result<Option<Told>, AllocError> {
         Some(Asked::Tokens) => Ok(Some(told_tokens(alloc, script)?)),
         None => Ok(None),
     }
-}
-
-/// Tells both texts, if they differ.
-fn compare(
-    alloc: Global,
-    told: &mut String,
-    part: &str,
-    has: &[u8],
-    wants: &[u8],
-) -> Result<(), AllocError> {
-    if has == wants {
-        return Ok(());
-    }
-    let has = String::from_utf8_lossy(alloc, has)?;
-    let wants = String::from_utf8_lossy(alloc, wants)?;
-    let lines = format!(in alloc; "{part} has\n{has}and not\n{wants}")?;
-    told.push_str(lines.as_str())
 }
 
 /// All that differs from what the case wants, in words; nothing where it is right.
