@@ -2,12 +2,10 @@
 ghost use Rattle.std.specs.Prelude.{◌≡◌, IfOk, IsErr, MatchResult, map, string_bytes};
 ghost use Rattle.std.specs.Vec.Iter.{into_iter_items};
 ghost use Rattle.std.specs.IoError.{error_kind};
-ghost use Rattle.dt_world.specs.Causes.{Rose};
 ghost use Rattle.session_model.specs.World.{world};
-ghost use Rattle.dt_session.specs.Answers.{AnyRose};
 ghost use Rattle.dt_run.specs.Exit.{exit_number};
-ghost use Rattle.dt_run.specs.Run.{StopsWith};
-ghost use Rattle.dt_cli.specs.Ending.{IsNumberOf, IsRun, wordless, words_behind};
+ghost use Rattle.stmt_value.specs.Reads.{files_seen};
+ghost use Rattle.dt_cli.specs.Ending.{IsNumberOf, IsRun, outside, sink_seen, wordless, words_behind};
 
 use dt_base::Steps;
 use dt_run::{Status, run};
@@ -46,17 +44,12 @@ fn ended_on<F: Files, O: Sink, E: Sink, L: Ledger>(
     err: &mut E,
     steps: &mut Steps<L>,
 ) -> u8
-    ensures {
-        IsNumberOf (IsRun (F.held files.old) (words_behind (map string_bytes (into_iter_items all)))
-            (world (F.held files.old) (O.bytes out.old) (E.bytes err.old))
-            (world (F.held files.new) (O.bytes out.new) (E.bytes err.new))
-            (Rose (F.read_faults files.old) (F.read_faults files.new))
-            (AnyRose (Rose (O.faults out.old) (O.faults out.new)) (Rose (E.faults err.old) (E.faults err.new))
-                (Rose (F.write_faults files.old) (F.write_faults files.new)))
-            (StopsWith (F.held files.old) (E.bytes err.old) (E.bytes err.new)
-                (Rose (F.misses files.old) (F.misses files.new)) (Rose (F.longs files.old) (F.longs files.new))))
-            result
-    }
+    ensures { IsNumberOf (IsRun (words_behind (map string_bytes (into_iter_items all)))
+        (outside (files_seen F.held F.read_faults F.misses F.longs F.write_faults files.old)
+        (sink_seen O.bytes O.faults out.old) (sink_seen E.bytes E.faults err.old))
+        (outside (files_seen F.held F.read_faults F.misses F.longs F.write_faults files.new)
+        (sink_seen O.bytes O.faults out.new) (sink_seen E.bytes E.faults err.new)))
+        result }
 {
     match words_after_name(alloc, all) {
         Ok(words) => run(alloc, &words, files, out, err, steps).number(),
@@ -74,21 +67,17 @@ pub fn ended<F: Files, O: Sink, E: Sink, L: Ledger>(
     err: &mut E,
     steps: &mut Steps<L>,
 ) -> u8
-    ensures number {
-        MatchResult all (λ a. IsNumberOf (IsRun (F.held files.old) (words_behind (map string_bytes (into_iter_items a)))
-            (world (F.held files.old) (O.bytes out.old) (E.bytes err.old))
-            (world (F.held files.new) (O.bytes out.new) (E.bytes err.new))
-            (Rose (F.read_faults files.old) (F.read_faults files.new))
-            (AnyRose (Rose (O.faults out.old) (O.faults out.new)) (Rose (E.faults err.old) (E.faults err.new))
-                (Rose (F.write_faults files.old) (F.write_faults files.new)))
-            (StopsWith (F.held files.old) (E.bytes err.old) (E.bytes err.new)
-                (Rose (F.misses files.old) (F.misses files.new)) (Rose (F.longs files.old) (F.longs files.new))))
-            result)
-        (λ e. result ≡ exit_number (wordless (error_kind e)))
-    }
-    ensures nothing {
-        IsErr all → world (F.held files.new) (O.bytes out.new) (E.bytes err.new) ≡ world (F.held files.old) (O.bytes out.old) (E.bytes err.old)
-    }
+    ensures number { MatchResult all
+        (λ a. IsNumberOf (IsRun (words_behind (map string_bytes (into_iter_items a)))
+        (outside (files_seen F.held F.read_faults F.misses F.longs F.write_faults files.old)
+        (sink_seen O.bytes O.faults out.old) (sink_seen E.bytes E.faults err.old))
+        (outside (files_seen F.held F.read_faults F.misses F.longs F.write_faults files.new)
+        (sink_seen O.bytes O.faults out.new) (sink_seen E.bytes E.faults err.new)))
+        result)
+        (λ e. result ≡ exit_number (wordless (error_kind e))) }
+    ensures nothing { IsErr all →
+        world (F.held files.new) (O.bytes out.new) (E.bytes err.new)
+        ≡ world (F.held files.old) (O.bytes out.old) (E.bytes err.old) }
 {
     match all {
         Ok(all) => ended_on(alloc, all, files, out, err, steps),

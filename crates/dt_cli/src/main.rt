@@ -17,10 +17,9 @@ ghost use Rattle.dt_cli.specs.Ending.{IsNumberOf, wordless, words_behind};
 
 mod ending;
 
-pub use dt_run::{Status, run};
-
 use crate::ending::ended;
 use dt_base::Steps;
+pub use dt_run::{Status, run};
 use dt_world::{RealFiles, RealOut};
 use std::env::Args;
 use std::marker::Brand;
@@ -40,14 +39,7 @@ fn ended_here<L: Ledger>(rt: &HostRuntime, all: io::Result<Args>, blank: Blank) 
     let mut files = RealFiles::new(rt.alloc(), rt);
     let mut out = RealOut::new(rt.stdout());
     let mut err = RealOut::new(rt.stderr());
-    ended(
-        rt.alloc(),
-        all,
-        &mut files,
-        &mut out,
-        &mut err,
-        &mut steps,
-    )
+    ended(rt.alloc(), all, &mut files, &mut out, &mut err, &mut steps)
 }
 
 fn main(rt: HostRuntime) -> ExitCode {

@@ -4,7 +4,7 @@ ghost use Rattle.dt_run.specs.Steps.{status_for};
 use dt_session::ExecFail;
 
 /// How a run ended.
-#[derive(Clone, Copy, PartialEq, Eq)]
+#[derive(Clone, Copy)]
 pub enum Status {
     /// The script ran to its end.
     Done,
