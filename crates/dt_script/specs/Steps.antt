@@ -2,9 +2,6 @@
 --   bracket_tree f       the bracket with these items
 --   placed j o           an item without a name, which stands at j where j is true
 --   came_of p            what stands before a bracket, and what its items have filled
---   empty_call f         ")" behind nothing
---   in_shut f t          ")" behind the expression t
---   empty_line m f       a break behind nothing, with the line of the next token
 --   in_assign f t        ":=" behind the expression t
 --   in_naming f x        "=" behind the name x
 --   in_arrow f x         "<-" behind the name x
@@ -35,19 +32,6 @@ placed j o = item_in (option_map (λ e. item_of j (tree_of e)) o)
 
 abbrev pub came_of : head_type.Head × filled_type.Filled → Head × Filled
 came_of p = (head_tree p.0, filled_of p.1)
-
-abbrev pub empty_call : Frame → Option Tree
-empty_call (InCall x NoArgs None) = Some (Call x NoArgs)
-empty_call _ = None
-
-abbrev pub in_shut : Frame → Tree → Option Tree
-in_shut InParen t = Some (Paren t)
-in_shut (InCall x args o) t = Some (Call x (MoreArgs args o t))
-in_shut _ t = None
-
-abbrev pub empty_line : ℕ → Frame → Option Frame
-empty_line m (InStmt ss n None) = Some (InStmt ss m None)
-empty_line m _ = None
 
 abbrev pub in_assign : Frame → Tree → Option Frame
 in_assign (InItem h f) t = if is_j f then Some (InAssign h f t) else None

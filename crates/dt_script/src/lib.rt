@@ -17,7 +17,9 @@
 
 mod brackets;
 mod bytes;
+mod empties;
 mod endings;
+mod formulas;
 mod frames;
 mod having;
 mod levels;
