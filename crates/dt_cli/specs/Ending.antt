@@ -11,6 +11,7 @@ use Rattle.std.specs.declared.io.ErrorKind.{ErrorKind}
 use Rattle.std.specs.declared.io.ErrorKind.TheVariants.{OutOfMemory}
 use Rattle.dt_run.specs.Exit.{exit_number}
 use Rattle.dt_run.specs.Run.{Headline, IsByWords, StopsWith}
+use Rattle.dt_run.specs.Steps.{CountsOwn}
 use Rattle.dt_run.specs.Words.{LacksScript, with_name}
 use Rattle.dt_run.specs.declared.status.Status.{Status}
 use Rattle.dt_run.specs.declared.status.Status.TheVariants.{Stopped, Usage, ReadFault, WriteFault, NoMemory}
@@ -59,6 +60,7 @@ pub record IsRun (ws : List (List ℕ)) (old now : Outside) (s : Status) : Type 
   pub read : s ≡ ReadFault → Rose old.files.read_faults now.files.read_faults
   pub write : s ≡ WriteFault → AnyRose (Rose old.out.faults now.out.faults) (Rose old.err.faults now.err.faults) (Rose old.files.write_faults now.files.write_faults)
   pub stopped : s ≡ Stopped → StopsWith old.files.held old.err.bytes now.err.bytes (Rose old.files.misses now.files.misses) (Rose old.files.longs now.files.longs)
+  pub quiet : CountsOwn (now.files.read_faults ≡ old.files.read_faults) ((now.out.faults ≡ old.out.faults) × (now.err.faults ≡ old.err.faults) × (now.files.write_faults ≡ old.files.write_faults)) s
 
 -- the number of a status that this holds of
 abbrev pub IsNumberOf : (Status → Type 0) → ℕ → Type 0

@@ -1,4 +1,5 @@
 pub mod Askings
+pub mod Counts
 pub mod Ends
 pub mod Files
 pub mod Refusals

@@ -3,6 +3,7 @@
 --   absent name, too_long name           the fault of a script that is not read
 --   CheckedAs bytes old now rose s       the script of these bytes was only read
 --   status_for e                         the status of a run that ended early
+--   CountsOwn reads writes s             of the counts of what failed, only the one that s answers may have risen
 use Rattle.std.specs.Prelude.{◌≡◌, ℕ, List, Option}
 use Rattle.dt_base.specs.declared.fault.Code.TheVariants.{E15, E16}
 use Rattle.dt_base.specs.Fault.{fault}
@@ -55,3 +56,13 @@ status_for (exec.Stop f) = Stopped
 status_for exec.ReadFault = ReadFault
 status_for exec.WriteFault = WriteFault
 status_for (exec.NoMemory e) = NoMemory
+
+-- Only what is answered may have been counted: after a failed read the counts of failed puts and writes
+-- stand, after a failed put or write that of failed reads, and after any other answer both.
+abbrev pub CountsOwn : Type 0 → Type 0 → Status → Type 0
+CountsOwn reads writes Done = reads × writes
+CountsOwn reads writes Stopped = reads × writes
+CountsOwn reads writes Usage = reads × writes
+CountsOwn reads writes ReadFault = writes
+CountsOwn reads writes WriteFault = reads
+CountsOwn reads writes NoMemory = reads × writes

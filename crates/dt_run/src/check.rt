@@ -1,7 +1,7 @@
 //! A script that is only read: nothing is told of it, or its first fault is.
-ghost use Rattle.std.specs.Prelude.{◌≤◌, length};
+ghost use Rattle.std.specs.Prelude.{◌≡◌, ◌≤◌, length, ⊤};
 ghost use Rattle.dt_world.specs.Causes.{Rose};
-ghost use Rattle.dt_run.specs.Steps.{CheckedAs};
+ghost use Rattle.dt_run.specs.Steps.{CheckedAs, CountsOwn};
 
 use crate::status::{Status, status_for};
 use dt_base::limits::MAX_SCRIPT_BYTES;
@@ -13,7 +13,8 @@ use std::alloc::Global;
 /// Reads the script of these bytes and does nothing more.
 pub fn check_script<E: Sink>(alloc: Global, bytes: &[u8], err: &mut E) -> Status
     requires { length bytes.now ≤ MAX_SCRIPT_BYTES }
-    ensures { CheckedAs bytes.now (E.bytes err.old) (E.bytes err.new) (Rose (E.faults err.old) (E.faults err.new)) result }
+    ensures end { CheckedAs bytes.now (E.bytes err.old) (E.bytes err.new) (Rose (E.faults err.old) (E.faults err.new)) result }
+    ensures quiet { CountsOwn ⊤ (E.faults err.new ≡ E.faults err.old) result }
 {
     match parse(alloc, bytes) {
         Ok(_script) => Status::Done,

@@ -5,6 +5,7 @@ ghost use Rattle.session_model.specs.World.{world};
 ghost use Rattle.dt_session.specs.Answers.{AnyRose};
 ghost use Rattle.dt_run.specs.Given.{meant, texts};
 ghost use Rattle.dt_run.specs.Run.{Answers, AskedCut, AskedEnds, Headline, IsByWords, NeedsScript, ScriptCut, ScriptEnds, StopsWith, Told};
+ghost use Rattle.dt_run.specs.Steps.{CountsOwn};
 ghost use Rattle.dt_run.specs.Words.{LacksScript, all_asked, with_name};
 
 use crate::check::check_script;
@@ -32,6 +33,8 @@ fn run_bytes<F: Files, O: Sink, E: Sink, L: Ledger>(
     ensures words { NeedsScript result true }
     ensures read { result ≡ Status.ReadFault → Rose (F.read_faults files.old) (F.read_faults files.new) }
     ensures write { result ≡ Status.WriteFault → AnyRose (Rose (O.faults out.old) (O.faults out.new)) (Rose (E.faults err.old) (E.faults err.new)) (Rose (F.write_faults files.old) (F.write_faults files.new)) }
+    ensures quiet { CountsOwn (F.read_faults files.new ≡ F.read_faults files.old)
+        ((O.faults out.new ≡ O.faults out.old) × (E.faults err.new ≡ E.faults err.old) × (F.write_faults files.new ≡ F.write_faults files.old)) result }
     ensures stopped { result ≡ Status.Stopped → StopsWith (F.held files.old) (E.bytes err.old) (E.bytes err.new) (Rose (F.misses files.old) (F.misses files.new)) (Rose (F.longs files.old) (F.longs files.new)) }
     ensures reads { F.read_faults files.old ≤ F.read_faults files.new }
 {
@@ -57,6 +60,8 @@ fn run_or_check<F: Files, O: Sink, E: Sink, L: Ledger>(
     ensures words { NeedsScript result true }
     ensures read { result ≡ Status.ReadFault → Rose (F.read_faults files.old) (F.read_faults files.new) }
     ensures write { result ≡ Status.WriteFault → AnyRose (Rose (O.faults out.old) (O.faults out.new)) (Rose (E.faults err.old) (E.faults err.new)) (Rose (F.write_faults files.old) (F.write_faults files.new)) }
+    ensures quiet { CountsOwn (F.read_faults files.new ≡ F.read_faults files.old)
+        ((O.faults out.new ≡ O.faults out.old) × (E.faults err.new ≡ E.faults err.old) × (F.write_faults files.new ≡ F.write_faults files.old)) result }
     ensures stopped { result ≡ Status.Stopped → StopsWith (F.held files.old) (E.bytes err.old) (E.bytes err.new) (Rose (F.misses files.old) (F.misses files.new)) (Rose (F.longs files.old) (F.longs files.new)) }
     ensures reads { F.read_faults files.old ≤ F.read_faults files.new }
 {
@@ -80,6 +85,8 @@ fn run_asked<F: Files, O: Sink, E: Sink, L: Ledger>(
     ensures words { NeedsScript result true }
     ensures read { result ≡ Status.ReadFault → Rose (F.read_faults files.old) (F.read_faults files.new) }
     ensures write { result ≡ Status.WriteFault → AnyRose (Rose (O.faults out.old) (O.faults out.new)) (Rose (E.faults err.old) (E.faults err.new)) (Rose (F.write_faults files.old) (F.write_faults files.new)) }
+    ensures quiet { CountsOwn (F.read_faults files.new ≡ F.read_faults files.old)
+        ((O.faults out.new ≡ O.faults out.old) × (E.faults err.new ≡ E.faults err.old) × (F.write_faults files.new ≡ F.write_faults files.old)) result }
     ensures stopped { result ≡ Status.Stopped → StopsWith (F.held files.old) (E.bytes err.old) (E.bytes err.new) (Rose (F.misses files.old) (F.misses files.new)) (Rose (F.longs files.old) (F.longs files.new)) }
 {
     match files.read(asked.script, MAX_SCRIPT_BYTES) {
@@ -105,6 +112,8 @@ fn run_named<F: Files, O: Sink, E: Sink, L: Ledger>(
     ensures usage { result ≡ Status.Usage → LacksScript (texts words.now) }
     ensures read { result ≡ Status.ReadFault → Rose (F.read_faults files.old) (F.read_faults files.new) }
     ensures write { result ≡ Status.WriteFault → AnyRose (Rose (O.faults out.old) (O.faults out.new)) (Rose (E.faults err.old) (E.faults err.new)) (Rose (F.write_faults files.old) (F.write_faults files.new)) }
+    ensures quiet { CountsOwn (F.read_faults files.new ≡ F.read_faults files.old)
+        ((O.faults out.new ≡ O.faults out.old) × (E.faults err.new ≡ E.faults err.old) × (F.write_faults files.new ≡ F.write_faults files.old)) result }
     ensures stopped { result ≡ Status.Stopped → StopsWith (F.held files.old) (E.bytes err.old) (E.bytes err.new) (Rose (F.misses files.old) (F.misses files.new)) (Rose (F.longs files.old) (F.longs files.new)) }
 {
     match asked_by(alloc, words) {
@@ -121,7 +130,8 @@ fn run_named<F: Files, O: Sink, E: Sink, L: Ledger>(
 /// for one number of statements, what so many give and a first part of what the next one gives, or
 /// a first part of the one line that the plain evaluation tells. `Usage` comes by the words alone,
 /// `ReadFault` only where a read failed, `WriteFault` only where a put or a write failed, and
-/// `NoMemory` where memory was wanting.
+/// `NoMemory` where memory was wanting. Of the counts of what failed only the one that is answered
+/// may have risen, so that none of these stands for another.
 ///
 /// At `Stopped` what came on `err` is the lines of warnings, and then the line of one fault. Where the
 /// files tell nothing of what they hold, that fault is E15 or E16 only where `files` counted a read
@@ -141,6 +151,8 @@ pub fn run<F: Files, O: Sink, E: Sink, L: Ledger>(
     ensures usage { result ≡ Status.Usage → LacksScript (with_name (map string_bytes words.now)) }
     ensures read { result ≡ Status.ReadFault → Rose (F.read_faults files.old) (F.read_faults files.new) }
     ensures write { result ≡ Status.WriteFault → AnyRose (Rose (O.faults out.old) (O.faults out.new)) (Rose (E.faults err.old) (E.faults err.new)) (Rose (F.write_faults files.old) (F.write_faults files.new)) }
+    ensures quiet { CountsOwn (F.read_faults files.new ≡ F.read_faults files.old)
+        ((O.faults out.new ≡ O.faults out.old) × (E.faults err.new ≡ E.faults err.old) × (F.write_faults files.new ≡ F.write_faults files.old)) result }
     ensures stopped { result ≡ Status.Stopped → StopsWith (F.held files.old) (E.bytes err.old) (E.bytes err.new) (Rose (F.misses files.old) (F.misses files.new)) (Rose (F.longs files.old) (F.longs files.new)) }
 {
     match named_words(alloc, words) {

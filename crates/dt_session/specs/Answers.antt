@@ -2,7 +2,7 @@
 --   PartOf line o w v         v has a first part of what the statement on this line gives, after w
 --   Refused line o w v e      what stands outside after a refusal e
 --   PutsNothing w v e         after a fault or a failed read nothing stands outside that did not
---   CountsNothing same e      after a fault or a failed read the counts of failed puts and writes stand
+--   CountsOwn reads writes e  of the counts of what failed, only the one that e answers may have risen
 --   IsStopped line f e v r    the line of the fault f was put, or a first part of it
 --   LineCause line o w v e    what stands outside after the statement on a line ended early
 --   StmtsEnd xs s w now v r   how statements ended early
@@ -50,12 +50,14 @@ PutsNothing w v (Stop f) = v ≡ w
 PutsNothing w v ReadFault = v ≡ w
 PutsNothing w v _ = Unit {0}
 
--- after a fault or a failed read this is so: no failed put and no failed write was counted. It holds
--- also where files and outputs tell nothing of what they hold.
-abbrev pub CountsNothing : Type 0 → ExecFail → Type 0
-CountsNothing same (Stop f) = same
-CountsNothing same ReadFault = same
-CountsNothing same _ = Unit {0}
+-- Only what is answered may have been counted: after a failed read the counts of failed puts and writes
+-- stand, after a failed put or write that of failed reads, and after any other answer both. It holds also
+-- where files and outputs tell nothing of what they hold.
+abbrev pub CountsOwn : Type 0 → Type 0 → ExecFail → Type 0
+CountsOwn reads writes (Stop f) = reads × writes
+CountsOwn reads writes ReadFault = writes
+CountsOwn reads writes WriteFault = reads
+CountsOwn reads writes (NoMemory e) = reads × writes
 
 -- one of three counts rose
 abbrev pub AnyRose : Type 0 → Type 0 → Type 0 → Type 0

@@ -15,6 +15,9 @@ pub fn put_piece<S: Sink>(sink: &mut S, piece: &[u8]) -> Result<(), WriteFail>
     ensures part { OnErr result (AppendedPart (S.bytes sink.old) (S.bytes sink.new) piece.now) }
     ensures failed { IsErrOf result WriteFail.Failed → Rose (S.faults sink.old) (S.faults sink.new) }
     ensures no_memory { IsErrOf result (WriteFail.NoMemory alloc_error) → S.bytes sink.new ≡ S.bytes sink.old }
+    ensures ok_quiet { OnOk result (S.faults sink.new ≡ S.faults sink.old) }
+    ensures no_memory_quiet { IsErrOf result (WriteFail.NoMemory alloc_error) →
+        S.faults sink.new ≡ S.faults sink.old }
     ensures faults { S.faults sink.old ≤ S.faults sink.new }
 {
     if piece.is_empty() {
@@ -29,6 +32,9 @@ fn write_file<F: Files>(files: &mut F, file: &Option<Written>) -> Result<(), Wri
     ensures ok { OnOk result (F.held files.new ≡ filed (F.held files.old) (option_map plain_file file.now)) }
     ensures part { OnErr result (FiledPart (F.held files.old) (F.held files.new) (option_map plain_file file.now)) }
     ensures failed { IsErrOf result WriteFail.Failed → Rose (F.write_faults files.old) (F.write_faults files.new) }
+    ensures ok_quiet { OnOk result (F.write_faults files.new ≡ F.write_faults files.old) }
+    ensures no_memory_quiet { IsErrOf result (WriteFail.NoMemory alloc_error) →
+        F.write_faults files.new ≡ F.write_faults files.old }
     ensures write_faults { F.write_faults files.old ≤ F.write_faults files.new }
     ensures read_faults { F.read_faults files.new ≡ F.read_faults files.old }
     ensures misses { F.misses files.new ≡ F.misses files.old }
@@ -52,6 +58,9 @@ pub fn put_all<F: Files, O: Sink, E: Sink>(
     ensures ok { OnOk result (world (F.held files.new) (O.bytes out.new) (E.bytes err.new) ≡ after (world (F.held files.old) (O.bytes out.old) (E.bytes err.old)) (sent effect.now lines.now)) }
     ensures part { OnErr result (Parted (world (F.held files.old) (O.bytes out.old) (E.bytes err.old)) (sent effect.now lines.now) (world (F.held files.new) (O.bytes out.new) (E.bytes err.new))) }
     ensures failed { IsErrOf result WriteFail.Failed → AnyRose (Rose (O.faults out.old) (O.faults out.new)) (Rose (E.faults err.old) (E.faults err.new)) (Rose (F.write_faults files.old) (F.write_faults files.new)) }
+    ensures ok_quiet { OnOk result ((O.faults out.new ≡ O.faults out.old) × (E.faults err.new ≡ E.faults err.old) × (F.write_faults files.new ≡ F.write_faults files.old)) }
+    ensures no_memory_quiet { IsErrOf result (WriteFail.NoMemory alloc_error) →
+        ((O.faults out.new ≡ O.faults out.old) × (E.faults err.new ≡ E.faults err.old) × (F.write_faults files.new ≡ F.write_faults files.old)) }
     ensures lines { OnOk result (E.bytes err.new ≡ appended (E.bytes err.old) lines.now) }
     ensures out_faults { O.faults out.old ≤ O.faults out.new }
     ensures err_faults { E.faults err.old ≤ E.faults err.new }

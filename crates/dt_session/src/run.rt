@@ -4,7 +4,7 @@ ghost use Rattle.dt_world.specs.Causes.{Rose};
 ghost use Rattle.session_model.specs.Evaluation.{Did, IsEnd, plain};
 ghost use Rattle.session_model.specs.Statement.{step};
 ghost use Rattle.session_model.specs.World.{world, look};
-ghost use Rattle.dt_session.specs.Answers.{AnyRose, Blames, LineCause, StmtsEnd, ReadsAs, EndsAs};
+ghost use Rattle.dt_session.specs.Answers.{AnyRose, Blames, CountsOwn, LineCause, StmtsEnd, ReadsAs, EndsAs};
 ghost use Rattle.dt_session.specs.Lines.{WarnedAt, FaultPut, TellsFault};
 ghost use Rattle.dt_session.specs.Session.{state_of};
 
@@ -34,6 +34,10 @@ fn run_line<F: Files, O: Sink, E: Sink, L: Ledger>(
     ensures cause { IfErr result (Blames (F.held files.old) (Rose (F.misses files.old) (F.misses files.new)) (Rose (F.longs files.old) (F.longs files.new))) }
     ensures read { IsErrOf result ExecFail.ReadFault → Rose (F.read_faults files.old) (F.read_faults files.new) }
     ensures write { IsErrOf result ExecFail.WriteFault → AnyRose (Rose (O.faults out.old) (O.faults out.new)) (Rose (E.faults err.old) (E.faults err.new)) (Rose (F.write_faults files.old) (F.write_faults files.new)) }
+    ensures ok_quiet { OnOk result ((F.read_faults files.new ≡ F.read_faults files.old)
+        × ((O.faults out.new ≡ O.faults out.old) × (E.faults err.new ≡ E.faults err.old) × (F.write_faults files.new ≡ F.write_faults files.old))) }
+    ensures quiet { IfErr result (CountsOwn (F.read_faults files.new ≡ F.read_faults files.old)
+        ((O.faults out.new ≡ O.faults out.old) × (E.faults err.new ≡ E.faults err.old) × (F.write_faults files.new ≡ F.write_faults files.old))) }
     ensures counts { (O.faults out.old ≤ O.faults out.new) × (E.faults err.old ≤ E.faults err.new) × (F.write_faults files.old ≤ F.write_faults files.new) }
     ensures reads { (F.read_faults files.old ≤ F.read_faults files.new) × (F.misses files.old ≤ F.misses files.new) × (F.longs files.old ≤ F.longs files.new) }
     ensures told { IsSome (F.held files.old) → IsSome (F.held files.new) }
@@ -65,6 +69,10 @@ fn run_stmts<F: Files, O: Sink, E: Sink, L: Ledger>(
     ensures cause { IfErr result (λ r. Blames (F.held files.old) (Rose (F.misses files.old) (F.misses files.new)) (Rose (F.longs files.old) (F.longs files.new)) r.cause) }
     ensures read { IfErr result (λ r. r.cause ≡ ExecFail.ReadFault → Rose (F.read_faults files.old) (F.read_faults files.new)) }
     ensures write { IfErr result (λ r. r.cause ≡ ExecFail.WriteFault → AnyRose (Rose (O.faults out.old) (O.faults out.new)) (Rose (E.faults err.old) (E.faults err.new)) (Rose (F.write_faults files.old) (F.write_faults files.new))) }
+    ensures ok_quiet { OnOk result ((F.read_faults files.new ≡ F.read_faults files.old)
+        × ((O.faults out.new ≡ O.faults out.old) × (E.faults err.new ≡ E.faults err.old) × (F.write_faults files.new ≡ F.write_faults files.old))) }
+    ensures quiet { IfErr result (λ r. CountsOwn (F.read_faults files.new ≡ F.read_faults files.old)
+        ((O.faults out.new ≡ O.faults out.old) × (E.faults err.new ≡ E.faults err.old) × (F.write_faults files.new ≡ F.write_faults files.old)) r.cause) }
     ensures counts { (O.faults out.old ≤ O.faults out.new) × (E.faults err.old ≤ E.faults err.new) × (F.write_faults files.old ≤ F.write_faults files.new) }
     ensures reads { (F.read_faults files.old ≤ F.read_faults files.new) × (F.misses files.old ≤ F.misses files.new) × (F.longs files.old ≤ F.longs files.new) }
     ensures told { IsSome (F.held files.old) → IsSome (F.held files.new) }
@@ -109,6 +117,10 @@ pub fn run_script<F: Files, O: Sink, E: Sink, L: Ledger>(
     ensures cause { IfErr result (λ r. Blames (F.held files.old) (Rose (F.misses files.old) (F.misses files.new)) (Rose (F.longs files.old) (F.longs files.new)) r.cause) }
     ensures read { IfErr result (λ r. r.cause ≡ ExecFail.ReadFault → Rose (F.read_faults files.old) (F.read_faults files.new)) }
     ensures write { IfErr result (λ r. r.cause ≡ ExecFail.WriteFault → AnyRose (Rose (O.faults out.old) (O.faults out.new)) (Rose (E.faults err.old) (E.faults err.new)) (Rose (F.write_faults files.old) (F.write_faults files.new))) }
+    ensures ok_quiet { OnOk result ((F.read_faults files.new ≡ F.read_faults files.old)
+        × ((O.faults out.new ≡ O.faults out.old) × (E.faults err.new ≡ E.faults err.old) × (F.write_faults files.new ≡ F.write_faults files.old))) }
+    ensures quiet { IfErr result (λ r. CountsOwn (F.read_faults files.new ≡ F.read_faults files.old)
+        ((O.faults out.new ≡ O.faults out.old) × (E.faults err.new ≡ E.faults err.old) × (F.write_faults files.new ≡ F.write_faults files.old)) r.cause) }
     ensures counts { (O.faults out.old ≤ O.faults out.new) × (E.faults err.old ≤ E.faults err.new) × (F.write_faults files.old ≤ F.write_faults files.new) }
     ensures reads { (F.read_faults files.old ≤ F.read_faults files.new) × (F.misses files.old ≤ F.misses files.new) × (F.longs files.old ≤ F.longs files.new) }
     ensures told { IsSome (F.held files.old) → IsSome (F.held files.new) }

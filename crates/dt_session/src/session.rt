@@ -8,8 +8,9 @@ ghost use Rattle.session_model.specs.World.{world, look};
 ghost use Rattle.stmt_effect.specs.Effects.{FitsIn};
 ghost use Rattle.stmt_value.specs.Answers as value;
 ghost use Rattle.stmt_value.specs.Answers.{Gives};
+ghost use Rattle.stmt_value.specs.Reads.{NoReadFailed};
 ghost use Rattle.table_heap.specs.State as named;
-ghost use Rattle.dt_session.specs.Answers.{Refused, PutsNothing, CountsNothing, AnyRose, Blames, prepared_effect};
+ghost use Rattle.dt_session.specs.Answers.{Refused, PutsNothing, CountsOwn, AnyRose, Blames, prepared_effect};
 ghost use Rattle.dt_session.specs.Lines.{WarnedAt};
 ghost use Rattle.dt_session.specs.Session.{state_of, both_on, IsAlike};
 
@@ -74,6 +75,7 @@ fn prepare<F: Files, L: Ledger>(
     ensures held { F.held files.new ≡ F.held files.old }
     ensures cause { IfErr result (value.Blames (F.held files.old) (Rose (F.misses files.old) (F.misses files.new)) (Rose (F.longs files.old) (F.longs files.new))) }
     ensures failed { IsErrOf result ValueFail.ReadFault → Rose (F.read_faults files.old) (F.read_faults files.new) }
+    ensures quiet { NoReadFailed result → F.read_faults files.new ≡ F.read_faults files.old }
     ensures read_faults { F.read_faults files.old ≤ F.read_faults files.new }
     ensures misses { F.misses files.old ≤ F.misses files.new }
     ensures longs { F.longs files.old ≤ F.longs files.new }
@@ -125,7 +127,8 @@ impl Session {
     /// file is written and its warning lines are put, each at once; then the change is made, which
     /// cannot fail. After a refusal the session is as it was. After a fault or a failed read nothing
     /// was put or written; after a failed put or write, or want of memory, what was put is a first
-    /// part of what the statement gives.
+    /// part of what the statement gives. Of the counts of what failed only the one that is answered
+    /// may have risen, and none where the statement was done.
     pub fn exec<F: Files, O: Sink, E: Sink, L: Ledger>(
         &mut self,
         s: &Stmt,
@@ -139,7 +142,10 @@ impl Session {
         ensures same { OnErr result (self.new.heap.held ≡ self.old.heap.held) }
         ensures options { self.new.options ≡ self.old.options }
         ensures nothing { IfErr result (PutsNothing (world (F.held files.old) (O.bytes out.old) (E.bytes err.old)) (world (F.held files.new) (O.bytes out.new) (E.bytes err.new))) }
-        ensures quiet { IfErr result (CountsNothing ((O.faults out.new ≡ O.faults out.old) × (E.faults err.new ≡ E.faults err.old) × (F.write_faults files.new ≡ F.write_faults files.old))) }
+        ensures ok_quiet { OnOk result ((F.read_faults files.new ≡ F.read_faults files.old)
+            × ((O.faults out.new ≡ O.faults out.old) × (E.faults err.new ≡ E.faults err.old) × (F.write_faults files.new ≡ F.write_faults files.old))) }
+        ensures quiet { IfErr result (CountsOwn (F.read_faults files.new ≡ F.read_faults files.old)
+            ((O.faults out.new ≡ O.faults out.old) × (E.faults err.new ≡ E.faults err.old) × (F.write_faults files.new ≡ F.write_faults files.old))) }
         ensures warned { OnOk result (WarnedAt s.now.line (E.bytes err.old) (E.bytes err.new)) }
         ensures cause { IfErr result (Blames (F.held files.old) (Rose (F.misses files.old) (F.misses files.new)) (Rose (F.longs files.old) (F.longs files.new))) }
         ensures read { IsErrOf result ExecFail.ReadFault → Rose (F.read_faults files.old) (F.read_faults files.new) }

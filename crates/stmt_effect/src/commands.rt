@@ -12,6 +12,7 @@ ghost use Rattle.session_model.specs.Effect as model;
 ghost use Rattle.vector_model.specs.Then.{then_do};
 ghost use Rattle.stmt_effect.specs.Effects.{plain_effect, FitsIn};
 ghost use Rattle.stmt_value.specs.Answers.{Gives, Blames};
+ghost use Rattle.stmt_value.specs.Reads.{NoReadFailed};
 ghost use Rattle.stmt_value.specs.Values.{plain_given, scene, IsValueIn};
 ghost use Rattle.table_heap.specs.Seen.{HeapSeen};
 ghost use Rattle.table_heap.specs.State.{state_of};
@@ -78,6 +79,7 @@ fn print<F: Files, L: Ledger>(
     ensures fits { IfOk result (λ e. FitsIn heap.now e.change) }
     ensures held { F.held files.new ≡ F.held files.old }
     ensures failed { IsErrOf result ValueFail.ReadFault → Rose (F.read_faults files.old) (F.read_faults files.new) }
+    ensures quiet { NoReadFailed result → F.read_faults files.new ≡ F.read_faults files.old }
     ensures read_faults { F.read_faults files.old ≤ F.read_faults files.new }
     ensures misses { F.misses files.old ≤ F.misses files.new }
     ensures longs { F.longs files.old ≤ F.longs files.new }
@@ -140,6 +142,7 @@ fn fwrite<F: Files, L: Ledger>(
     ensures fits { IfOk result (λ e. FitsIn heap.now e.change) }
     ensures held { F.held files.new ≡ F.held files.old }
     ensures failed { IsErrOf result ValueFail.ReadFault → Rose (F.read_faults files.old) (F.read_faults files.new) }
+    ensures quiet { NoReadFailed result → F.read_faults files.new ≡ F.read_faults files.old }
     ensures read_faults { F.read_faults files.old ≤ F.read_faults files.new }
     ensures misses { F.misses files.old ≤ F.misses files.new }
     ensures longs { F.longs files.old ≤ F.longs files.new }
@@ -209,6 +212,7 @@ pub fn command<F: Files, L: Ledger>(
     ensures fits { IfOk result (λ e. FitsIn heap.now e.change) }
     ensures held { F.held files.new ≡ F.held files.old }
     ensures failed { IsErrOf result ValueFail.ReadFault → Rose (F.read_faults files.old) (F.read_faults files.new) }
+    ensures quiet { NoReadFailed result → F.read_faults files.new ≡ F.read_faults files.old }
     ensures read_faults { F.read_faults files.old ≤ F.read_faults files.new }
     ensures misses { F.misses files.old ≤ F.misses files.new }
     ensures longs { F.longs files.old ≤ F.longs files.new }

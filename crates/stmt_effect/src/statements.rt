@@ -7,6 +7,7 @@ ghost use Rattle.session_model.specs.Statement.{value_step, step_of, step};
 ghost use Rattle.session_model.specs.World.{look};
 ghost use Rattle.stmt_effect.specs.Effects.{plain_effect, FitsIn};
 ghost use Rattle.stmt_value.specs.Answers.{Gives, Blames};
+ghost use Rattle.stmt_value.specs.Reads.{NoReadFailed};
 ghost use Rattle.stmt_value.specs.Values.{scene};
 ghost use Rattle.table_heap.specs.State.{state_of};
 
@@ -37,6 +38,7 @@ fn value_step<F: Files, L: Ledger>(
     ensures fits { IfOk result (λ e. FitsIn heap.now e.change) }
     ensures held { F.held files.new ≡ F.held files.old }
     ensures failed { IsErrOf result ValueFail.ReadFault → Rose (F.read_faults files.old) (F.read_faults files.new) }
+    ensures quiet { NoReadFailed result → F.read_faults files.new ≡ F.read_faults files.old }
     ensures read_faults { F.read_faults files.old ≤ F.read_faults files.new }
     ensures misses { F.misses files.old ≤ F.misses files.new }
     ensures longs { F.longs files.old ≤ F.longs files.new }
@@ -64,6 +66,7 @@ fn command_step<F: Files, L: Ledger>(
     ensures fits { IfOk result (λ e. FitsIn heap.now e.change) }
     ensures held { F.held files.new ≡ F.held files.old }
     ensures failed { IsErrOf result ValueFail.ReadFault → Rose (F.read_faults files.old) (F.read_faults files.new) }
+    ensures quiet { NoReadFailed result → F.read_faults files.new ≡ F.read_faults files.old }
     ensures read_faults { F.read_faults files.old ≤ F.read_faults files.new }
     ensures misses { F.misses files.old ≤ F.misses files.new }
     ensures longs { F.longs files.old ≤ F.longs files.new }
@@ -89,6 +92,7 @@ fn bound_command<F: Files, L: Ledger>(
     ensures fits { IfOk result (λ e. FitsIn heap.now e.change) }
     ensures held { F.held files.new ≡ F.held files.old }
     ensures failed { IsErrOf result ValueFail.ReadFault → Rose (F.read_faults files.old) (F.read_faults files.new) }
+    ensures quiet { NoReadFailed result → F.read_faults files.new ≡ F.read_faults files.old }
     ensures read_faults { F.read_faults files.old ≤ F.read_faults files.new }
     ensures misses { F.misses files.old ≤ F.misses files.new }
     ensures longs { F.longs files.old ≤ F.longs files.new }
@@ -114,6 +118,7 @@ fn call_step<F: Files, L: Ledger>(
     ensures fits { IfOk result (λ e. FitsIn heap.now e.change) }
     ensures held { F.held files.new ≡ F.held files.old }
     ensures failed { IsErrOf result ValueFail.ReadFault → Rose (F.read_faults files.old) (F.read_faults files.new) }
+    ensures quiet { NoReadFailed result → F.read_faults files.new ≡ F.read_faults files.old }
     ensures read_faults { F.read_faults files.old ≤ F.read_faults files.new }
     ensures misses { F.misses files.old ≤ F.misses files.new }
     ensures longs { F.longs files.old ≤ F.longs files.new }
@@ -141,6 +146,7 @@ fn known_step<F: Files, L: Ledger>(
     ensures fits { IfOk result (λ e. FitsIn heap.now e.change) }
     ensures held { F.held files.new ≡ F.held files.old }
     ensures failed { IsErrOf result ValueFail.ReadFault → Rose (F.read_faults files.old) (F.read_faults files.new) }
+    ensures quiet { NoReadFailed result → F.read_faults files.new ≡ F.read_faults files.old }
     ensures read_faults { F.read_faults files.old ≤ F.read_faults files.new }
     ensures misses { F.misses files.old ≤ F.misses files.new }
     ensures longs { F.longs files.old ≤ F.longs files.new }
@@ -168,6 +174,7 @@ fn served_step<F: Files, L: Ledger>(
     ensures fits { IfOk result (λ e. FitsIn heap.now e.change) }
     ensures held { F.held files.new ≡ F.held files.old }
     ensures failed { IsErrOf result ValueFail.ReadFault → Rose (F.read_faults files.old) (F.read_faults files.new) }
+    ensures quiet { NoReadFailed result → F.read_faults files.new ≡ F.read_faults files.old }
     ensures read_faults { F.read_faults files.old ≤ F.read_faults files.new }
     ensures misses { F.misses files.old ≤ F.misses files.new }
     ensures longs { F.longs files.old ≤ F.longs files.new }
@@ -218,6 +225,7 @@ pub fn compute<F: Files, L: Ledger>(
     ensures fits { IfOk result (λ e. FitsIn heap.now e.change) }
     ensures held { F.held files.new ≡ F.held files.old }
     ensures failed { IsErrOf result ValueFail.ReadFault → Rose (F.read_faults files.old) (F.read_faults files.new) }
+    ensures quiet { NoReadFailed result → F.read_faults files.new ≡ F.read_faults files.old }
     ensures read_faults { F.read_faults files.old ≤ F.read_faults files.new }
     ensures misses { F.misses files.old ≤ F.misses files.new }
     ensures longs { F.longs files.old ≤ F.longs files.new }

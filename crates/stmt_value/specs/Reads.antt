@@ -1,8 +1,10 @@
 -- What a call that reads files does to them, and what its answer blames on them.
 --   FilesSeen           the files, where they are told, and the four counts of what went wrong
 --   files_seen ..       the same of files of any kind
+--   NoReadFailed r      the answer r is no failed read
 --   OnlyReads see o n r   a call that answers r made of the files o the files n: it changed no file,
---                       and its answer blames a file only where that was counted
+--                       its answer blames a file only where that was counted, and a failed read is
+--                       counted only where it is the answer
 --   unread r            the answer r of a call that reads none
 use Rattle.std.specs.Prelude.{◌≡◌, ◌≤◌, ℕ, Option, Result, Ok, Err, IfErr, IsErrOf}
 use Rattle.eval_fail.specs.declared.fail.EvalFail.{EvalFail}
@@ -11,7 +13,7 @@ use Rattle.dt_world.specs.Told.{FileMap}
 use Rattle.stmt_value.specs.Answers.{Blames}
 use Rattle.stmt_value.specs.Fails.{widened}
 use Rattle.stmt_value.specs.declared.fail.ValueFail.{ValueFail}
-use Rattle.stmt_value.specs.declared.fail.ValueFail.TheVariants.{ReadFault}
+use Rattle.stmt_value.specs.declared.fail.ValueFail.TheVariants.{Stop, ReadFault, NoMemory}
 
 -- the files, where they are told, and how often what went wrong
 pub record FilesSeen : Type 0 where
@@ -31,11 +33,19 @@ files_seen held read_faults misses longs write_faults files = record {
   write_faults = write_faults files;
 }
 
--- No file is changed and no count falls. A read that failed was counted, and where files tell nothing
--- an absent file and one that is too long were counted.
+-- the answer is no failed read
+abbrev pub NoReadFailed : {B : Type 0} → Result B ValueFail → Type 0
+NoReadFailed (Ok x) = Unit {0}
+NoReadFailed (Err (Stop f)) = Unit {0}
+NoReadFailed (Err ReadFault) = ⊥
+NoReadFailed (Err (NoMemory e)) = Unit {0}
+
+-- No file is changed and no count falls. A read that failed was counted, and no other answer counts one;
+-- where files tell nothing an absent file and one that is too long were counted.
 pub record OnlyReads {F B : Type 0} (see : F → FilesSeen) (old new : F) (answer : Result B ValueFail) : Type 0 where
   pub held : (see new).held ≡ (see old).held
   pub failed : IsErrOf answer ReadFault → Rose (see old).read_faults (see new).read_faults
+  pub quiet : NoReadFailed answer → (see new).read_faults ≡ (see old).read_faults
   pub read_faults : (see old).read_faults ≤ (see new).read_faults
   pub misses : (see old).misses ≤ (see new).misses
   pub longs : (see old).longs ≤ (see new).longs

@@ -14,7 +14,7 @@ ghost use Rattle.session_model.specs.Value.{bound_value, wanted_table, copied};
 ghost use Rattle.session_model.specs.Value as model;
 ghost use Rattle.stmt_value.specs.Answers.{Gives, Blames};
 ghost use Rattle.stmt_value.specs.Calls.{call_or, known_call};
-ghost use Rattle.stmt_value.specs.Reads.{OnlyReads, files_seen};
+ghost use Rattle.stmt_value.specs.Reads.{NoReadFailed, OnlyReads, files_seen};
 ghost use Rattle.stmt_value.specs.Values.{plain_value, plain_given, scene, IsValueIn};
 ghost use Rattle.table_heap.specs.State.{state_of};
 
@@ -121,6 +121,7 @@ pub fn value<'a, F: Files, L: Ledger>(
     ensures live { IfOk result (λ g. IsValueIn heap.now g.value) }
     ensures held { F.held files.new ≡ F.held files.old }
     ensures failed { IsErrOf result ValueFail.ReadFault → Rose (F.read_faults files.old) (F.read_faults files.new) }
+    ensures quiet { NoReadFailed result → F.read_faults files.new ≡ F.read_faults files.old }
     ensures read_faults { F.read_faults files.old ≤ F.read_faults files.new }
     ensures misses { F.misses files.old ≤ F.misses files.new }
     ensures longs { F.longs files.old ≤ F.longs files.new }

@@ -15,5 +15,6 @@ invariant-loop-stmt g l =
       warned : Warned (g.E.Sink.bytes l.fn.err) (g.E.Sink.bytes l.err);
       counts : (g.O.Sink.faults l.fn.out ≤ g.O.Sink.faults l.out) × (g.E.Sink.faults l.fn.err ≤ g.E.Sink.faults l.err) × (g.F.Files.write_faults l.fn.files ≤ g.F.Files.write_faults l.files);
       reads : (g.F.Files.read_faults l.fn.files ≤ g.F.Files.read_faults l.files) × (g.F.Files.misses l.fn.files ≤ g.F.Files.misses l.files) × (g.F.Files.longs l.fn.files ≤ g.F.Files.longs l.files);
+      quiet : (g.F.Files.read_faults l.files ≡ g.F.Files.read_faults l.fn.files) × ((g.O.Sink.faults l.out ≡ g.O.Sink.faults l.fn.out) × (g.E.Sink.faults l.err ≡ g.E.Sink.faults l.fn.err) × (g.F.Files.write_faults l.files ≡ g.F.Files.write_faults l.fn.files));
       options : l.session.options ≡ l.fn.session.options;
     }
