@@ -1,100 +1,143 @@
--- What a token that ends an expression makes of a frame, from the frame's parts.
-use Rattle.std.proofs.Common.{◌≡◌, ◌≢◌, ℕ, true, false, List, [], ◌∷◌, Option, Some, None, option_map, map, refl}
+-- The machine's steps at a token that ends all operators, from what it makes of the innermost frame.
+use Rattle.std.proofs.Common.{◌≡◌, ◌≢◌, Bool, true, false, cond, List, [], ◌∷◌, Option, Some, None, option_map, map, refl, ap}
 use Rattle.dt_tree.specs.declared.tree.Arg.{Arg}
-use Rattle.run_model.specs.GrammarTrees.{Word, Tree, Paren, Call, Args, NoArgs, MoreArgs}
+use Rattle.run_model.specs.GrammarTrees.{Word, Tree, Args, NoArgs, MoreArgs, Absent}
+use Rattle.run_model.specs.Grammar.{Filled, takes_unnamed, is_j, with_item}
 use Rattle.run_model.specs.TreeView.{ArgTree, args_from, arg_of, args_of}
-use Rattle.dt_grammar.specs.Machine.{Frame, Front, Left, InParen, InCall, InItem, InNamed, InAssign, InStmt, Want, Have, query, item, next_item, shut_square_none, comma_none, comma, break, last_stmt}
-use Rattle.dt_script.specs.Steps.{empty_call, in_shut}
-use Rattle.dt_script.specs.Ends.{call_parts, empty_item, is_paren, is_call, last_arg, with_stmt}
+use Rattle.dt_grammar.specs.Machine as model
+use Rattle.dt_grammar.specs.Machine.{Head, Frame, Front, Left, InParen, InCall, InItem, InNamed, InAssign, InStmt, State, item_from, query, item, names_of, last_stmt}
+use Rattle.dt_script.specs.declared.frames.End.{End}
+use Rattle.dt_script.specs.declared.frames.End.TheVariants as end
+use Rattle.dt_script.specs.Ends.{Made, Have, Want, NeedWord, state_with, next_from, next_made, with_stmt, made_at, made_none, end_step, none_step}
 
-pub shut_square_none-frame : (f : Frame) (rest : List Frame) → shut_square_none (f ∷ rest) ≡ option_map (λ i. Have rest (query i.0 i.1)) (empty_item f)
-shut_square_none-frame (Front p) rest = refl
-shut_square_none-frame (Left l tails op) rest = refl
-shut_square_none-frame InParen rest = refl
-shut_square_none-frame (InCall x args o) rest = refl
-shut_square_none-frame (InItem h f) rest = refl
-shut_square_none-frame (InNamed h f x) rest = refl
-shut_square_none-frame (InAssign h f l) rest = refl
-shut_square_none-frame (InStmt ss n o) rest = refl
+-- the state behind what is made, with these frames around it
+abbrev behind : List Frame → Option Made → Option State
+behind rest o = option_map (λ m. state_with m rest) o
 
-pub comma_none-frame : (f : Frame) (rest : List Frame) → comma_none (f ∷ rest) ≡ option_map (λ i. next_item i.0 i.1 rest) (empty_item f)
-comma_none-frame (Front p) rest = refl
-comma_none-frame (Left l tails op) rest = refl
-comma_none-frame InParen rest = refl
-comma_none-frame (InCall x args o) rest = refl
-comma_none-frame (InItem h f) rest = refl
-comma_none-frame (InNamed h f x) rest = refl
-comma_none-frame (InAssign h f l) rest = refl
-comma_none-frame (InStmt ss n o) rest = refl
+closes : (rest : List Frame) (o : Option (Head × Filled)) → option_map (λ came. model.Have rest (query came.0 came.1)) o ≡ behind rest (option_map (λ came. Have (query came.0 came.1)) o)
+closes rest None = refl
+closes rest (Some came) = refl
 
-pub ruleset ends = (shut_square_none-frame, comma_none-frame)
+next_is : (b : Bool) (h : Head) (f : Filled) (rest : List Frame) → item_from b h f rest ≡ state_with (next_from b h f) rest
+next_is true h f rest = refl
+next_is false h f rest = refl
 
-pub last_arg-parts : (f : Frame) (t : Tree) → last_arg f t ≡ option_map (λ c. (c.0, MoreArgs c.1 c.2 t)) (call_parts f)
-last_arg-parts (Front p) t = refl
-last_arg-parts (Left l tails op) t = refl
-last_arg-parts InParen t = refl
-last_arg-parts (InCall x args o) t = refl
-last_arg-parts (InItem h f) t = refl
-last_arg-parts (InNamed h f x) t = refl
-last_arg-parts (InAssign h f l) t = refl
-last_arg-parts (InStmt ss n o) t = refl
+goes_on : (rest : List Frame) (o : Option (Head × Filled)) → option_map (λ came. model.next_item came.0 came.1 rest) o ≡ behind rest (option_map (λ came. next_made came.0 came.1) o)
+goes_on rest None = refl
+goes_on rest (Some came) = ap Some (next_is (takes_unnamed came.1) came.0 came.1 rest)
 
-pub ruleset calls = (last_arg-parts)
+assigns : (b : Bool) (f : Frame) (rest : List Frame) → cond b (Some (model.Want (f ∷ rest))) None ≡ behind rest (option_map Want (cond b (Some f) None))
+assigns true f rest = refl
+assigns false f rest = refl
 
-pub in_shut-paren : (f : Frame) (t : Tree) → is_paren f ≡ true → in_shut f t ≡ Some (Paren t)
-in_shut-paren (Front p) t e = cc
-in_shut-paren (Left l tails op) t e = cc
-in_shut-paren InParen t e = refl
-in_shut-paren (InCall x args o) t e = cc
-in_shut-paren (InItem h f) t e = cc
-in_shut-paren (InNamed h f x) t e = cc
-in_shut-paren (InAssign h f l) t e = cc
-in_shut-paren (InStmt ss n o) t e = cc
+names : (x : Word) (args : Args) (o : Option Word) (rest : List Frame) (xs : Option (List Word))
+    → option_map (λ left. model.NeedWord x args o left [] rest) xs ≡ behind rest (option_map (λ left. NeedWord x args o left []) xs)
+names x args o rest None = refl
+names x args o rest (Some left) = refl
 
-pub in_shut-call : (f : Frame) (t : Tree) → is_paren f ≡ false → in_shut f t ≡ option_map (λ c. Call c.0 c.1) (last_arg f t)
-in_shut-call (Front p) t e = refl
-in_shut-call (Left l tails op) t e = refl
-in_shut-call InParen t e = cc
-in_shut-call (InCall x args o) t e = refl
-in_shut-call (InItem h f) t e = refl
-in_shut-call (InNamed h f x) t e = refl
-in_shut-call (InAssign h f l) t e = refl
-in_shut-call (InStmt ss n o) t e = refl
+-- behind an expression
+pub end-frame : (e : End) (f : Frame) (rest : List Frame) (t : Tree) → end_step e (f ∷ rest, t) ≡ behind rest (made_at e f t)
+end-frame end.Round (Front p) rest t = refl
+end-frame end.Round (Left l tails op) rest t = refl
+end-frame end.Round InParen rest t = refl
+end-frame end.Round (InCall x args o) rest t = refl
+end-frame end.Round (InItem h f) rest t = refl
+end-frame end.Round (InNamed h f x) rest t = refl
+end-frame end.Round (InAssign h f l) rest t = refl
+end-frame end.Round (InStmt ss n o) rest t = refl
+end-frame end.Square f rest t = closes rest (item f t)
+end-frame end.Comma (Front p) rest t = goes_on rest (item (Front p) t)
+end-frame end.Comma (Left l tails op) rest t = goes_on rest (item (Left l tails op) t)
+end-frame end.Comma InParen rest t = goes_on rest (item InParen t)
+end-frame end.Comma (InCall x args o) rest t = refl
+end-frame end.Comma (InItem h f) rest t = goes_on rest (item (InItem h f) t)
+end-frame end.Comma (InNamed h f x) rest t = goes_on rest (item (InNamed h f x) t)
+end-frame end.Comma (InAssign h f l) rest t = goes_on rest (item (InAssign h f l) t)
+end-frame end.Comma (InStmt ss n o) rest t = goes_on rest (item (InStmt ss n o) t)
+end-frame (end.Break m) (Front p) rest t = refl
+end-frame (end.Break m) (Left l tails op) rest t = refl
+end-frame (end.Break m) InParen rest t = refl
+end-frame (end.Break m) (InCall x args o) rest t = refl
+end-frame (end.Break m) (InItem h f) rest t = refl
+end-frame (end.Break m) (InNamed h f x) rest t = refl
+end-frame (end.Break m) (InAssign h f l) rest t = refl
+end-frame (end.Break m) (InStmt ss n o) rest t = refl
+end-frame end.Assign (Front p) rest t = refl
+end-frame end.Assign (Left l tails op) rest t = refl
+end-frame end.Assign InParen rest t = refl
+end-frame end.Assign (InCall x args o) rest t = refl
+end-frame end.Assign (InItem h f) rest t = assigns (is_j f) (InAssign h f t) rest
+end-frame end.Assign (InNamed h f x) rest t = refl
+end-frame end.Assign (InAssign h f l) rest t = refl
+end-frame end.Assign (InStmt ss n o) rest t = refl
+end-frame end.Tilde (Front p) rest t = refl
+end-frame end.Tilde (Left l tails op) rest t = refl
+end-frame end.Tilde InParen rest t = refl
+end-frame end.Tilde (InCall x args o) rest t = names x args o rest (names_of t)
+end-frame end.Tilde (InItem h f) rest t = refl
+end-frame end.Tilde (InNamed h f x) rest t = refl
+end-frame end.Tilde (InAssign h f l) rest t = refl
+end-frame end.Tilde (InStmt ss n o) rest t = refl
 
-pub ruleset shuts = (in_shut-paren, in_shut-call)
+-- and where no frame is left, no script goes on
+pub end-none : (e : End) (t : Tree) → end_step e ([], t) ≡ None
+end-none end.Round t = refl
+end-none end.Square t = refl
+end-none end.Comma t = refl
+end-none (end.Break m) t = refl
+end-none end.Assign t = refl
+end-none end.Tilde t = refl
 
-pub comma-arg : (f : Frame) (rest : List Frame) (t : Tree) → is_call f ≡ true → comma (f ∷ rest, t) ≡ option_map (λ call. Want (InCall call.0 call.1 None ∷ rest)) (last_arg f t)
-comma-arg (Front p) rest t e = cc
-comma-arg (Left l tails op) rest t e = cc
-comma-arg InParen rest t e = cc
-comma-arg (InCall x args o) rest t e = refl
-comma-arg (InItem h f) rest t e = cc
-comma-arg (InNamed h f x) rest t e = cc
-comma-arg (InAssign h f l) rest t e = cc
-comma-arg (InStmt ss n o) rest t e = cc
+-- behind nothing
+pub none-frame : (e : End) (f : Frame) (rest : List Frame) → none_step e (f ∷ rest) ≡ behind rest (made_none e f)
+none-frame end.Round (Front p) rest = refl
+none-frame end.Round (Left l tails op) rest = refl
+none-frame end.Round InParen rest = refl
+none-frame end.Round (InCall x NoArgs None) rest = refl
+none-frame end.Round (InCall x NoArgs (Some y)) rest = refl
+none-frame end.Round (InCall x (MoreArgs before w u) None) rest = refl
+none-frame end.Round (InCall x (MoreArgs before w u) (Some y)) rest = refl
+none-frame end.Round (InItem h f) rest = refl
+none-frame end.Round (InNamed h f x) rest = refl
+none-frame end.Round (InAssign h f l) rest = refl
+none-frame end.Round (InStmt ss n o) rest = refl
+none-frame end.Square (Front p) rest = refl
+none-frame end.Square (Left l tails op) rest = refl
+none-frame end.Square InParen rest = refl
+none-frame end.Square (InCall x args o) rest = refl
+none-frame end.Square (InItem h f) rest = refl
+none-frame end.Square (InNamed h f x) rest = refl
+none-frame end.Square (InAssign h f l) rest = refl
+none-frame end.Square (InStmt ss n o) rest = refl
+none-frame end.Comma (Front p) rest = refl
+none-frame end.Comma (Left l tails op) rest = refl
+none-frame end.Comma InParen rest = refl
+none-frame end.Comma (InCall x args o) rest = refl
+none-frame end.Comma (InItem h f) rest = goes_on rest (Some (h, with_item f Absent))
+none-frame end.Comma (InNamed h f x) rest = refl
+none-frame end.Comma (InAssign h f l) rest = refl
+none-frame end.Comma (InStmt ss n o) rest = refl
+none-frame (end.Break m) (Front p) rest = refl
+none-frame (end.Break m) (Left l tails op) rest = refl
+none-frame (end.Break m) InParen rest = refl
+none-frame (end.Break m) (InCall x args o) rest = refl
+none-frame (end.Break m) (InItem h f) rest = refl
+none-frame (end.Break m) (InNamed h f x) rest = refl
+none-frame (end.Break m) (InAssign h f l) rest = refl
+none-frame (end.Break m) (InStmt ss n None) rest = refl
+none-frame (end.Break m) (InStmt ss n (Some y)) rest = refl
+none-frame end.Assign f rest = refl
+none-frame end.Tilde f rest = refl
 
-pub comma-item : (f : Frame) (rest : List Frame) (t : Tree) → is_call f ≡ false → comma (f ∷ rest, t) ≡ option_map (λ came. next_item came.0 came.1 rest) (item f t)
-comma-item (Front p) rest t e = refl
-comma-item (Left l tails op) rest t e = refl
-comma-item InParen rest t e = refl
-comma-item (InCall x args o) rest t e = cc
-comma-item (InItem h f) rest t e = refl
-comma-item (InNamed h f x) rest t e = refl
-comma-item (InAssign h f l) rest t e = refl
-comma-item (InStmt ss n o) rest t e = refl
+pub none-none : (e : End) → none_step e [] ≡ None
+none-none end.Round = refl
+none-none end.Square = refl
+none-none end.Comma = refl
+none-none (end.Break m) = refl
+none-none end.Assign = refl
+none-none end.Tilde = refl
 
-pub ruleset commas = (comma-arg, comma-item)
-
-pub break-stmt : (m : ℕ) (f : Frame) (rest : List Frame) (t : Tree) → break m (f ∷ rest, t) ≡ option_map (λ ss. Want (InStmt ss m None ∷ rest)) (with_stmt f t)
-break-stmt m (Front p) rest t = refl
-break-stmt m (Left l tails op) rest t = refl
-break-stmt m InParen rest t = refl
-break-stmt m (InCall x args o) rest t = refl
-break-stmt m (InItem h f) rest t = refl
-break-stmt m (InNamed h f x) rest t = refl
-break-stmt m (InAssign h f l) rest t = refl
-break-stmt m (InStmt ss n o) rest t = refl
-
+-- the statements, where the script ends
 pub last_stmt-frame : (f : Frame) (rest : List Frame) (t : Tree) → last_stmt (f ∷ rest, t) ≡ with_stmt f t
 last_stmt-frame (Front p) rest t = refl
 last_stmt-frame (Left l tails op) rest t = refl
@@ -105,14 +148,12 @@ last_stmt-frame (InNamed h f x) rest t = refl
 last_stmt-frame (InAssign h f l) rest t = refl
 last_stmt-frame (InStmt ss n o) rest t = refl
 
-pub ruleset lines = (break-stmt, last_stmt-frame)
-
 -- the call without arguments, from its parts
-more_not_empty : (x : Word) (before : Args) (o : Option Word) (t : Tree) (xs : List ArgTree) → empty_call (InCall x (args_from (MoreArgs before o t) xs) None) ≡ None
+more_not_empty : (x : Word) (before : Args) (o : Option Word) (t : Tree) (xs : List ArgTree) → made_none end.Round (InCall x (args_from (MoreArgs before o t) xs) None) ≡ None
 more_not_empty x before o t [] = refl
 more_not_empty x before o t (y ∷ xs) = more_not_empty x (MoreArgs before o t) y.0 y.1 xs
 
-pub call_not_empty : (x : Word) (xs : List Arg) → xs ≢ [] → empty_call (InCall x (args_of xs) None) ≡ None
+pub call_not_empty : (x : Word) (xs : List Arg) → xs ≢ [] → made_none end.Round (InCall x (args_of xs) None) ≡ None
 call_not_empty x [] h = absurd (h refl)
 call_not_empty x (y ∷ xs) h = more_not_empty x NoArgs (arg_of y).0 (arg_of y).1 (map arg_of xs)
 

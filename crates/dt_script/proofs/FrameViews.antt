@@ -1,9 +1,11 @@
 -- The view of the code's frames.
-use Rattle.std.proofs.Common.{◌≡◌, ℕ, zero, suc, ◌+◌, ◌-◌, cond, List, [], ◌∷◌, ◌++◌, length, Option, Some, None, slice_get, refl, ap, ◌∙◌, arith}
+use Rattle.std.proofs.Common.{◌≡◌, ℕ, zero, suc, ◌+◌, ◌-◌, cond, List, [], ◌∷◌, ◌++◌, length, Option, Some, None, slice_get, refl, sym, ap, ◌∙◌, arith}
 use Rattle.dt_script.specs.declared.frames.Frame as frame_type
 use Rattle.run_model.specs.GrammarTrees.{Tree}
 use Rattle.dt_grammar.specs.Machine.{Frame, Front, Left, InParen, InCall, InItem, InNamed, InAssign, InStmt, close, demand}
-use Rattle.dt_script.specs.Frames.{frame_of, frames_over, frames_of, binds, ended, frame_demand}
+use Rattle.dt_tree.specs.declared.tree.Expr.{Expr}
+use Rattle.run_model.specs.TreeView.{tree_of}
+use Rattle.dt_script.specs.Frames.{frame_of, frames_over, frames_of, closed_of, binds, ended, frame_demand}
 
 pub frames_over-append : (below : List Frame) (fs : List frame_type.Frame) (f : frame_type.Frame) → frames_over below (fs ++ f ∷ []) ≡ frame_of f ∷ frames_over below fs
 frames_over-append below [] f = refl
@@ -11,6 +13,14 @@ frames_over-append below (g ∷ fs) f = frames_over-append (frame_of g ∷ below
 
 pub frames_of-append : (fs : List frame_type.Frame) (f : frame_type.Frame) → frames_of (fs ++ f ∷ []) ≡ frame_of f ∷ frames_of fs
 frames_of-append fs f = frames_over-append [] fs f
+
+-- the innermost frame, taken from the others
+pub frames_of-popped : (fs rest : List frame_type.Frame) (f : frame_type.Frame) → fs ≡ rest ++ f ∷ [] → frame_of f ∷ frames_of rest ≡ frames_of fs
+frames_of-popped fs rest f e = sym (ap frames_of e ∙ frames_of-append rest f)
+
+pub closed_of-popped : (fs rest : List frame_type.Frame) (f : frame_type.Frame) (t : Expr) (p : List Frame × Tree) → fs ≡ rest ++ f ∷ [] → closed_of fs t ≡ p
+    → (frame_of f ∷ frames_of rest, tree_of t) ≡ p
+closed_of-popped fs rest f t p e same = ap (λ z. (z, tree_of t)) (frames_of-popped fs rest f e) ∙ same
 
 pub close-frame : (k : ℕ) (f : Frame) (rest : List Frame) (t : Tree) → close k (f ∷ rest) t ≡ cond (binds k f) (close k rest (ended f t)) (f ∷ rest, t)
 close-frame k (Front p) rest t = refl

@@ -1,5 +1,5 @@
 -- The steps of the machine, frame by frame, and the view of what the code makes of a frame.
-use Rattle.std.proofs.Common.{◌≡◌, ◌≢◌, ℕ, Bool, true, false, cond, List, [], ◌∷◌, ◌++◌, Option, Some, None, option_map, option_and_then, refl, sym, ◌∙◌, ap, subst}
+use Rattle.std.proofs.Common.{◌≡◌, ◌≢◌, Bool, true, false, List, [], ◌∷◌, ◌++◌, Option, Some, None, option_map, option_and_then, refl, sym, ◌∙◌, ap, subst}
 use Rattle.dt_tree.specs.declared.tree.Expr.{Expr, out-Expr, roll-Expr, roll-out-Expr}
 use Rattle.dt_tree.specs.declared.tree.Expr.TheOpen.{Expr-F}
 use Rattle.dt_tree.specs.declared.tree.Expr.TheOpen as layer
@@ -10,11 +10,11 @@ use Rattle.dt_tree.specs.declared.tree.Tail.{Tail}
 use Rattle.dt_tree.specs.declared.tree.Bracket.{Bracket, out-Bracket, roll-out-Bracket}
 use Rattle.dt_tree.specs.declared.tree.Stmt as stmt_type
 use Rattle.run_model.specs.GrammarTrees.{Word, Tree, Var, Given, NoArgs, MoreArgs, Brackets, NoBrackets, MoreBrackets}
-use Rattle.run_model.specs.Grammar.{Filled, Nothing, UpToI, UpToJ, UpToBy, with_bracket, as_j, is_j, with_name}
+use Rattle.run_model.specs.Grammar.{Filled, Nothing, UpToI, UpToJ, UpToBy, with_bracket, as_j, with_name}
 use Rattle.run_model.specs.TreeView.{tree_of, bracket_of, first_of, second_of, args_of, stmt_of, stmts_of}
-use Rattle.dt_grammar.specs.Machine.{Frame, Front, Left, InParen, InCall, InItem, InNamed, InAssign, InStmt, Want, Have, head_of, shut_none, shut, break_none, assign, name_top, arrow_top, opens, naming}
+use Rattle.dt_grammar.specs.Machine.{Frame, Front, Left, InParen, InCall, InItem, InNamed, InAssign, InStmt, Want, head_of, name_top, arrow_top, opens, naming}
 use Rattle.dt_grammar.proofs.Trees.{tree_of-Lit, tree_of-Null, tree_of-Infinite, tree_of-Name, tree_of-Paren, tree_of-Minus, tree_of-Not, tree_of-Chain, tree_of-Call, tree_of-Query, tree_of-Formula, item_of_second-Value, item_of_second-Assign, item_of_second-AssignAll, bracket_of-roll, brackets_of-push}
-use Rattle.dt_script.specs.Steps.{bracket_tree, placed, bare_name, empty_call, in_shut, empty_line, in_assign, in_naming, in_arrow}
+use Rattle.dt_script.specs.Steps.{bracket_tree, placed, bare_name, in_naming, in_arrow}
 
 -- brackets
 pub with_bracket_is : (bs : Brackets) (f : Filled) → with_bracket bs f ≡ (let b = bracket_tree f in MoreBrackets bs b.first b.second b.third b.args)
@@ -104,54 +104,6 @@ arrow-name frames t = arrow_none frames t refl
 pub ruleset bare_names = (opens-name, naming-name, arrow-name)
 
 -- frames
-pub shut_none-frame : (f : Frame) (rest : List Frame) → shut_none (f ∷ rest) ≡ option_map (λ t. Have rest t) (empty_call f)
-shut_none-frame (Front p) rest = refl
-shut_none-frame (Left l tails op) rest = refl
-shut_none-frame InParen rest = refl
-shut_none-frame (InCall g NoArgs None) rest = refl
-shut_none-frame (InCall g NoArgs (Some y)) rest = refl
-shut_none-frame (InCall g (MoreArgs before w u) None) rest = refl
-shut_none-frame (InCall g (MoreArgs before w u) (Some y)) rest = refl
-shut_none-frame (InItem h f) rest = refl
-shut_none-frame (InNamed h f x) rest = refl
-shut_none-frame (InAssign h f l) rest = refl
-shut_none-frame (InStmt ss n o) rest = refl
-
-pub shut-frame : (f : Frame) (rest : List Frame) (t : Tree) → shut (f ∷ rest, t) ≡ option_map (λ u. Have rest u) (in_shut f t)
-shut-frame (Front p) rest t = refl
-shut-frame (Left l tails op) rest t = refl
-shut-frame InParen rest t = refl
-shut-frame (InCall x args o) rest t = refl
-shut-frame (InItem h f) rest t = refl
-shut-frame (InNamed h f x) rest t = refl
-shut-frame (InAssign h f l) rest t = refl
-shut-frame (InStmt ss n o) rest t = refl
-
-pub break_none-frame : (m : ℕ) (f : Frame) (rest : List Frame) → break_none m (f ∷ rest) ≡ option_map (λ g. Want (g ∷ rest)) (empty_line m f)
-break_none-frame m (Front p) rest = refl
-break_none-frame m (Left l tails op) rest = refl
-break_none-frame m InParen rest = refl
-break_none-frame m (InCall x args o) rest = refl
-break_none-frame m (InItem h f) rest = refl
-break_none-frame m (InNamed h f x) rest = refl
-break_none-frame m (InAssign h f l) rest = refl
-break_none-frame m (InStmt ss n None) rest = refl
-break_none-frame m (InStmt ss n (Some y)) rest = refl
-
-assign_test : (b : Bool) (f : Frame) (rest : List Frame) → cond b (Some (Want (f ∷ rest))) None ≡ option_map (λ g. Want (g ∷ rest)) (cond b (Some f) None)
-assign_test true f rest = refl
-assign_test false f rest = refl
-
-pub assign-frame : (f : Frame) (rest : List Frame) (t : Tree) → assign (f ∷ rest, t) ≡ option_map (λ g. Want (g ∷ rest)) (in_assign f t)
-assign-frame (Front p) rest t = refl
-assign-frame (Left l tails op) rest t = refl
-assign-frame InParen rest t = refl
-assign-frame (InCall x args o) rest t = refl
-assign-frame (InItem h f) rest t = assign_test (is_j f) (InAssign h f t) rest
-assign-frame (InNamed h f x) rest t = refl
-assign-frame (InAssign h f l) rest t = refl
-assign-frame (InStmt ss n o) rest t = refl
-
 pub naming-frame : (f : Frame) (rest : List Frame) (x : Word) → name_top (f ∷ rest) x ≡ option_map (λ g. Want (g ∷ rest)) (in_naming f x)
 naming-frame (Front p) rest x = refl
 naming-frame (Left l tails op) rest x = refl
@@ -175,7 +127,7 @@ arrow-frame (InAssign h f l) rest x = refl
 arrow-frame (InStmt ss n None) rest x = refl
 arrow-frame (InStmt ss n (Some y)) rest x = refl
 
-pub ruleset steps = (shut_none-frame, shut-frame, break_none-frame, assign-frame, naming-frame, arrow-frame)
+pub ruleset steps = (naming-frame, arrow-frame)
 
 pub stmts_of-push : (ss : List stmt_type.Stmt) (s : stmt_type.Stmt) → stmts_of (ss ++ s ∷ []) ≡ stmts_of ss ++ stmt_of s ∷ []
 stmts_of-push [] s = refl

@@ -1,5 +1,6 @@
 -- How contracts see the states of the code.
 --   prefix_of p      a one-sided operator
+--   end_of e         a token that ends all operators
 --   symbol_of s      a token
 --   head_tree h      what stands before a bracket
 --   filled_of f      what the items of a bracket have filled
@@ -7,10 +8,11 @@
 --   frames_of fs     all of it, the innermost first
 --   state_of s       a state
 use Rattle.std.specs.Prelude.{ℕ, suc, Bool, false, nat_le, List, [], ◌∷◌}
-use Rattle.dt_tree.specs.declared.tree.Arg.{Arg}
 use Rattle.dt_tree.specs.declared.tree.Expr.{Expr}
 use Rattle.dt_script.specs.declared.frames.Prefix as prefix_type
 use Rattle.dt_script.specs.declared.frames.Prefix.TheVariants as prefix
+use Rattle.dt_script.specs.declared.frames.End as end_type
+use Rattle.dt_script.specs.declared.frames.End.TheVariants as end
 use Rattle.dt_script.specs.declared.frames.Symbol as symbol_type
 use Rattle.dt_script.specs.declared.frames.Symbol.TheVariants as symbol
 use Rattle.dt_script.specs.declared.frames.Head as head_type
@@ -20,7 +22,7 @@ use Rattle.dt_script.specs.declared.frames.Frame as frame_type
 use Rattle.dt_script.specs.declared.frames.Frame.TheVariants as frame
 use Rattle.dt_script.specs.declared.frames.State as state_type
 use Rattle.dt_script.specs.declared.frames.State.TheVariants as state
-use Rattle.run_model.specs.GrammarTrees.{Word, Args, Typed, Null, Infinite, Prefix, Not, Negate, Token, Name, Literal, Operator, Bang, Tilde, Assign, Arrow, Is, Open, Shut, OpenSquare, ShutSquare, Comma, Break, Semicolon, Tree, Unary, Chain, MoreTails}
+use Rattle.run_model.specs.GrammarTrees.{Typed, Null, Infinite, Prefix, Not, Negate, Token, Name, Literal, Operator, Bang, Tilde, Assign, Arrow, Is, Open, Shut, OpenSquare, ShutSquare, Comma, Break, Semicolon, Tree, Unary, Chain, MoreTails}
 use Rattle.run_model.specs.Grammar.{level, prefix_level, Filled, Nothing, UpToI, UpToJ, UpToBy}
 use Rattle.dt_grammar.specs.Machine.{Head, Frame, Front, Left, InParen, InCall, InItem, InNamed, InAssign, InStmt, State, Want, Have, NeedName, NeedIs, NeedWord, HaveWords}
 use Rattle.run_model.specs.TreeView.{tree_of, tails_of, args_of, brackets_of, first_of, second_of, stmts_of}
@@ -29,6 +31,14 @@ abbrev pub prefix_of : prefix_type.Prefix → Prefix
 prefix_of prefix.Not = Not
 prefix_of prefix.Negate = Negate
 
+abbrev pub end_of : end_type.End → Token
+end_of end.Round = Shut
+end_of end.Square = ShutSquare
+end_of end.Comma = Comma
+end_of (end.Break n) = Break n
+end_of end.Assign = Assign
+end_of end.Tilde = Tilde
+
 abbrev pub symbol_of : symbol_type.Symbol → Token
 symbol_of (symbol.Name x) = Name x
 symbol_of (symbol.Literal c k) = Literal (Typed c k)
@@ -36,17 +46,12 @@ symbol_of symbol.Null = Literal Null
 symbol_of symbol.Infinite = Literal Infinite
 symbol_of (symbol.Operator op) = Operator op
 symbol_of symbol.Bang = Bang
-symbol_of symbol.Tilde = Tilde
-symbol_of symbol.Assign = Assign
 symbol_of symbol.Arrow = Arrow
 symbol_of symbol.Is = Is
 symbol_of symbol.Open = Open
-symbol_of symbol.Shut = Shut
 symbol_of symbol.OpenSquare = OpenSquare
-symbol_of symbol.ShutSquare = ShutSquare
-symbol_of symbol.Comma = Comma
-symbol_of (symbol.Break n) = Break n
 symbol_of symbol.Semicolon = Semicolon
+symbol_of (symbol.End e) = end_of e
 
 abbrev pub head_tree : head_type.Head → Head
 head_tree h = record { tree = tree_of h.tree; brackets = brackets_of h.brackets }
@@ -102,7 +107,3 @@ abbrev pub frame_demand : Frame → ℕ
 frame_demand (Front p) = suc (prefix_level p)
 frame_demand (Left l tails op) = suc (level op)
 frame_demand _ = 0
-
--- a call, with its arguments so far
-abbrev pub call_of : Word × List Arg → Word × Args
-call_of c = (c.0, args_of c.1)

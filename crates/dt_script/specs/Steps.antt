@@ -2,26 +2,23 @@
 --   bracket_tree f       the bracket with these items
 --   placed j o           an item without a name, which stands at j where j is true
 --   came_of p            what stands before a bracket, and what its items have filled
---   empty_call f         ")" behind nothing
---   in_shut f t          ")" behind the expression t
---   empty_line m f       a break behind nothing, with the line of the next token
 --   in_assign f t        ":=" behind the expression t
 --   in_naming f x        "=" behind the name x
 --   in_arrow f x         "<-" behind the name x
 --   bare_name t          the name that an expression is
 --   added_name t         the name behind a "+"
 --   names_behind xs ts   the names xs and those that the tails ts add
-use Rattle.std.specs.Prelude.{ℕ, Bool, List, [], ◌∷◌, ◌++◌, Option, Some, None, option_map, option_and_then, if◌then◌else◌}
+use Rattle.std.specs.Prelude.{Bool, List, [], ◌∷◌, ◌++◌, Option, Some, None, option_map, option_and_then, if◌then◌else◌}
 use Rattle.dt_base.specs.declared.operators.Op.TheVariants.{Add}
 use Rattle.dt_tree.specs.declared.tree.BinOp.{BinOp}
 use Rattle.dt_tree.specs.declared.tree.BinOp.TheVariants.{Arith}
 use Rattle.dt_tree.specs.declared.tree.Expr.{Expr}
 use Rattle.dt_script.specs.declared.frames.Head as head_type
 use Rattle.dt_script.specs.declared.frames.Filled as filled_type
-use Rattle.run_model.specs.GrammarTrees.{Word, Tree, Var, Paren, Call, NoArgs, MoreArgs, Item, Absent}
+use Rattle.run_model.specs.GrammarTrees.{Word, Tree, Var, NoArgs, Item, Absent}
 use Rattle.run_model.specs.Grammar.{Filled, Nothing, UpToI, UpToJ, UpToBy, item_of, is_j}
 use Rattle.run_model.specs.TreeView.{BracketTree, TailTree, item_in, tree_of}
-use Rattle.dt_grammar.specs.Machine.{Head, Frame, InParen, InCall, InItem, InNamed, InAssign, InStmt}
+use Rattle.dt_grammar.specs.Machine.{Head, Frame, InCall, InItem, InNamed, InAssign, InStmt}
 use Rattle.dt_script.specs.Frames.{head_tree, filled_of}
 
 abbrev pub bracket_tree : Filled → BracketTree
@@ -35,19 +32,6 @@ placed j o = item_in (option_map (λ e. item_of j (tree_of e)) o)
 
 abbrev pub came_of : head_type.Head × filled_type.Filled → Head × Filled
 came_of p = (head_tree p.0, filled_of p.1)
-
-abbrev pub empty_call : Frame → Option Tree
-empty_call (InCall x NoArgs None) = Some (Call x NoArgs)
-empty_call _ = None
-
-abbrev pub in_shut : Frame → Tree → Option Tree
-in_shut InParen t = Some (Paren t)
-in_shut (InCall x args o) t = Some (Call x (MoreArgs args o t))
-in_shut _ t = None
-
-abbrev pub empty_line : ℕ → Frame → Option Frame
-empty_line m (InStmt ss n None) = Some (InStmt ss m None)
-empty_line m _ = None
 
 abbrev pub in_assign : Frame → Tree → Option Frame
 in_assign (InItem h f) t = if is_j f then Some (InAssign h f t) else None

@@ -3,11 +3,11 @@ ghost use Rattle.run_model.specs.Grammar as grammar;
 ghost use Rattle.run_model.specs.GrammarTrees.{MoreArgs};
 ghost use Rattle.dt_grammar.specs.Machine as model;
 ghost use Rattle.run_model.specs.TreeView.{tree_of, args_of, bracket_of, brackets_of, item_of_second, second_of};
-ghost use Rattle.dt_script.specs.Frames.{head_tree, filled_of, frame_of, frames_of, state_of};
+ghost use Rattle.dt_script.specs.Ends.{made_of, next_made};
+ghost use Rattle.dt_script.specs.Frames.{head_tree, filled_of, frame_of};
 ghost use Rattle.dt_script.specs.Steps.{bracket_tree, placed, came_of};
 
-use crate::frames::{Filled, Frame, Head, State};
-use crate::stack::enter;
+use crate::frames::{Filled, Frame, Head, Made};
 use dt_base::Text;
 use dt_tree::{Arg, Bracket, Expr, Second};
 use sqlite_items::{Boxed, Items};
@@ -270,20 +270,12 @@ pub fn takes_unnamed(filled: &Filled) -> bool
 }
 
 /// The next item of a bracket.
-pub fn next_item(
-    head: Head,
-    filled: Filled,
-    frames: Vec<Frame>,
-) -> Result<Option<State>, AllocError>
-    ensures { IfOk result (λ next. option_map state_of next ≡ Some (model.next_item (head_tree head) (filled_of filled) (frames_of frames.items))) }
+pub fn next_item(head: Head, filled: Filled) -> Made
+    ensures { made_of result ≡ next_made (head_tree head) (filled_of filled) }
 {
     if takes_unnamed(&filled) {
-        enter(Frame::InItem { head, filled }, frames)
+        Made::Want(Frame::InItem { head, filled })
     } else {
-        Ok(Some(State::NeedName {
-            head,
-            filled,
-            frames,
-        }))
+        Made::NeedName { head, filled }
     }
 }

@@ -1,355 +1,202 @@
-ghost use Rattle.std.specs.Prelude.{◌≡◌, ◌∷◌, IfOk, Some, None, option_map};
-ghost use Rattle.run_model.specs.TreeView.{tree_of, stmts_of};
-ghost use Rattle.run_model.specs.GrammarTrees.{Paren, Call};
+//! What a token that ends all operators makes of the innermost frame.
+ghost use Rattle.std.specs.Prelude.{◌≡◌, IfOk, Some, option_map};
+ghost use Rattle.run_model.specs.GrammarTrees as grammar;
+ghost use Rattle.run_model.specs.TreeView.{tree_of, args_of, stmts_of};
 ghost use Rattle.dt_grammar.specs.Machine as model;
-ghost use Rattle.dt_script.specs.Frames.{frame_of, frames_of, state_of, closed_of, call_of};
-ghost use Rattle.dt_script.specs.Steps.{came_of, empty_call, in_shut, empty_line};
-ghost use Rattle.dt_script.specs.Ends.{call_view, stmt_view, call_parts, stmt_parts, empty_item, is_paren, is_call, last_arg, with_stmt};
+ghost use Rattle.dt_script.specs.Ends as ends;
+ghost use Rattle.dt_script.specs.Ends.{made_of, made_at, next_made, with_stmt, after_stmts};
+ghost use Rattle.dt_script.specs.Frames.{head_tree, filled_of, frame_of};
+ghost use Rattle.dt_script.specs.declared.frames.End.TheVariants as end;
 
-use crate::brackets::{item, next_item, query, with_arg, with_item};
-use crate::frames::{Filled, Frame, Head, State};
-use crate::stack::enter;
+use crate::brackets::{item, next_item, query, with_arg};
+use crate::formulas::tilde;
+use crate::frames::{End, Filled, Frame, Head, Made};
 use dt_base::Text;
 use dt_tree::{Arg, Expr, Stmt};
 use sqlite_items::{Boxed, Items};
 use std::alloc::{AllocError, Global};
 
-/// The call that the frame is the argument of: its name, its arguments so far, and the name of this
-/// one.
-fn call_parts(frame: Frame) -> Option<(Text, Items<Arg>, Option<Text>)>
-    ensures { option_map call_view result ≡ call_parts (frame_of frame) }
-{
-    match frame {
-        Frame::InCall { name, args, target } => Some((name, args, target)),
-        other => {
-            drop(other);
-            None
-        }
-    }
-}
-
-/// The statement that the frame is: those before it, its line, and its target.
-fn stmt_parts(frame: Frame) -> Option<(Items<Stmt>, u32, Option<Text>)>
-    ensures { option_map stmt_view result ≡ stmt_parts (frame_of frame) }
-{
-    match frame {
-        Frame::InStmt { done, line, target } => Some((done, line, target)),
-        other => {
-            drop(other);
-            None
-        }
-    }
-}
-
-/// The bracket whose next item is empty: what stands before it, and what its items fill.
-fn empty_item(alloc: Global, frame: Frame) -> Option<(Head, Filled)>
-    ensures { option_map came_of result ≡ empty_item (frame_of frame) }
-{
-    match frame {
-        Frame::InItem { head, filled } => Some((head, with_item(alloc, filled, None))),
-        other => {
-            drop(other);
-            None
-        }
-    }
-}
-
-/// Whether the frame is a parenthesis.
-fn is_paren(frame: &Frame) -> bool
-    ensures { result ≡ is_paren (frame_of frame.now) }
-{
-    match frame {
-        Frame::InParen => true,
-        _ => false,
-    }
-}
-
-/// Whether the frame is the argument of a call.
-fn is_call(frame: &Frame) -> bool
-    ensures { result ≡ is_call (frame_of frame.now) }
-{
-    match frame {
-        Frame::InCall { .. } => true,
-        _ => false,
-    }
-}
-
-/// A call without arguments, where the frame is one and nothing has come in it.
-#[tactic(auto, using(dt_grammar::proofs::Trees::trees, crate::proofs::EndViews::empties))]
-fn empty_call(frame: Frame) -> Option<Expr>
-    ensures { option_map tree_of result ≡ empty_call (frame_of frame) }
-{
-    match frame {
-        Frame::InCall {
-            name,
-            args,
-            target: None,
-        } => {
-            if args.is_empty() {
-                Some(Expr::Call { name, args })
-            } else {
-                None
-            }
-        }
-        _ => None,
-    }
-}
-
-/// `)` where nothing has come.
-#[tactic(auto, using(crate::proofs::FrameViews::frames, crate::proofs::StepViews::steps))]
-pub fn shut_none(mut frames: Vec<Frame>) -> Option<State>
-    ensures { option_map state_of result ≡ model.shut_none (frames_of frames.items) }
-{
-    let operand = empty_call(frames.pop()?)?;
-    Some(State::Have { frames, operand })
-}
-
-/// `]` where nothing has come: the last item is empty.
-#[tactic(auto, using(crate::proofs::FrameViews::frames, crate::proofs::EndViews::ends))]
-pub fn shut_square_none(alloc: Global, mut frames: Vec<Frame>) -> Result<Option<State>, AllocError>
-    ensures { IfOk result (λ next. option_map state_of next ≡ model.shut_square_none (frames_of frames.items)) }
-{
-    let Some(frame) = frames.pop() else {
-        return Ok(None);
-    };
-    let Some((head, filled)) = empty_item(alloc, frame) else {
-        return Ok(None);
-    };
-    let operand = query(alloc, head, filled)?;
-    Ok(Some(State::Have { frames, operand }))
-}
-
-/// `,` where nothing has come: an empty item.
-#[tactic(auto, using(crate::proofs::FrameViews::frames, crate::proofs::EndViews::ends))]
-pub fn comma_none(alloc: Global, mut frames: Vec<Frame>) -> Result<Option<State>, AllocError>
-    ensures { IfOk result (λ next. option_map state_of next ≡ model.comma_none (frames_of frames.items)) }
-{
-    let Some(frame) = frames.pop() else {
-        return Ok(None);
-    };
-    let Some((head, filled)) = empty_item(alloc, frame) else {
-        return Ok(None);
-    };
-    next_item(head, filled, frames)
-}
-
-/// An empty line, where the frame is a statement and nothing has come in it.
-fn empty_line(next: u32, frame: Frame) -> Option<Frame>
-    ensures { option_map frame_of result ≡ empty_line next (frame_of frame) }
-{
-    match frame {
-        Frame::InStmt {
-            done,
-            target: None,
-            ..
-        } => Some(Frame::InStmt {
-            done,
-            line: next,
-            target: None,
-        }),
-        _ => None,
-    }
-}
-
-/// A break where nothing has come. The next token stands on line `next`.
-#[tactic(auto, using(crate::proofs::FrameViews::frames, crate::proofs::StepViews::steps))]
-pub fn break_none(next: u32, mut frames: Vec<Frame>) -> Result<Option<State>, AllocError>
-    ensures { IfOk result (λ state. option_map state_of state ≡ model.break_none next (frames_of frames.items)) }
-{
-    let Some(frame) = frames.pop() else {
-        return Ok(None);
-    };
-    let Some(frame) = empty_line(next, frame) else {
-        return Ok(None);
-    };
-    enter(frame, frames)
-}
-
-/// The call that the argument ends.
-#[tactic(auto, using(dt_grammar::proofs::Trees::trees, crate::proofs::EndViews::calls))]
-fn last_arg(frame: Frame, operand: Expr) -> Result<Option<(Text, Items<Arg>)>, AllocError>
-    ensures { IfOk result (λ call. option_map call_of call ≡ last_arg (frame_of frame) (tree_of operand)) }
-{
-    let Some((name, args, target)) = call_parts(frame) else {
-        drop(operand);
-        return Ok(None);
-    };
-    let args = with_arg(args, target, operand)?;
-    Ok(Some((name, args)))
-}
-
 /// An expression in a parenthesis.
-#[tactic(auto, using(dt_grammar::proofs::Trees::trees))]
-fn paren(alloc: Global, operand: Expr) -> Result<Option<Expr>, AllocError>
-    ensures { IfOk result (λ t. option_map tree_of t ≡ Some (Paren (tree_of operand))) }
+fn paren(alloc: Global, operand: Expr) -> Result<Option<Made>, AllocError>
+    ensures { IfOk result (λ made. option_map made_of made ≡ Some (ends.Have (grammar.Paren (tree_of operand)))) }
 {
     let inner = Boxed::new(alloc, operand)?;
-    Ok(Some(Expr::Paren { inner }))
+    Ok(Some(Made::Have(Expr::Paren { inner })))
 }
 
-/// The call that the argument ends, as an expression.
-#[tactic(auto, using(dt_grammar::proofs::Trees::trees))]
-fn whole_call(frame: Frame, operand: Expr) -> Result<Option<Expr>, AllocError>
-    ensures { IfOk result (λ t. option_map tree_of t ≡ option_map (λ call. Call call.0 call.1) (last_arg (frame_of frame) (tree_of operand))) }
+/// A call with its last argument.
+fn last_arg(
+    name: Text,
+    args: Items<Arg>,
+    target: Option<Text>,
+    operand: Expr,
+) -> Result<Option<Made>, AllocError>
+    ensures { IfOk result (λ made. option_map made_of made
+        ≡ Some (ends.Have (grammar.Call name (grammar.MoreArgs (args_of args) target (tree_of operand))))) }
 {
-    let Some((name, args)) = last_arg(frame, operand)? else {
-        return Ok(None);
-    };
-    Ok(Some(Expr::Call { name, args }))
+    let args = with_arg(args, target, operand)?;
+    Ok(Some(Made::Have(Expr::Call { name, args })))
 }
 
-/// The expression that `)` ends.
-#[tactic(auto, using(crate::proofs::EndViews::shuts))]
-fn in_shut(alloc: Global, frame: Frame, operand: Expr) -> Result<Option<Expr>, AllocError>
-    ensures { IfOk result (λ t. option_map tree_of t ≡ in_shut (frame_of frame) (tree_of operand)) }
+/// `)` ends a parenthesis or a call.
+fn round(alloc: Global, frame: Frame, operand: Expr) -> Result<Option<Made>, AllocError>
+    ensures { IfOk result (λ made. option_map made_of made ≡ made_at end.Round (frame_of frame) (tree_of operand)) }
 {
-    if is_paren(&frame) {
-        drop(frame);
-        return paren(alloc, operand);
+    match frame {
+        Frame::InParen => paren(alloc, operand),
+        Frame::InCall { name, args, target } => last_arg(name, args, target, operand),
+        other => {
+            drop((other, operand));
+            Ok(None)
+        }
     }
-    whole_call(frame, operand)
 }
 
-/// `)` behind an expression that has come in these frames.
-#[tactic(auto, using(crate::proofs::FrameViews::frames, crate::proofs::StepViews::steps))]
-pub fn shut(
-    alloc: Global,
-    mut frames: Vec<Frame>,
-    operand: Expr,
-) -> Result<Option<State>, AllocError>
-    ensures { IfOk result (λ next. option_map state_of next ≡ model.shut (closed_of frames.items operand)) }
+/// A query with its last bracket.
+fn last_bracket(alloc: Global, head: Head, filled: Filled) -> Result<Option<Made>, AllocError>
+    ensures { IfOk result (λ made. option_map made_of made ≡ Some (ends.Have (model.query (head_tree head) (filled_of filled)))) }
 {
-    let Some(frame) = frames.pop() else {
-        drop(operand);
-        return Ok(None);
-    };
-    let Some(operand) = in_shut(alloc, frame, operand)? else {
-        return Ok(None);
-    };
-    Ok(Some(State::Have { frames, operand }))
-}
-
-/// `]` behind an expression that has come in these frames.
-#[tactic(auto, using(crate::proofs::FrameViews::frames))]
-pub fn shut_square(
-    alloc: Global,
-    mut frames: Vec<Frame>,
-    operand: Expr,
-) -> Result<Option<State>, AllocError>
-    ensures { IfOk result (λ next. option_map state_of next ≡ model.shut_square (closed_of frames.items operand)) }
-{
-    let Some(frame) = frames.pop() else {
-        drop(operand);
-        return Ok(None);
-    };
-    let Some((head, filled)) = item(alloc, frame, operand)? else {
-        return Ok(None);
-    };
     let operand = query(alloc, head, filled)?;
-    Ok(Some(State::Have { frames, operand }))
+    Ok(Some(Made::Have(operand)))
 }
 
-/// `,` behind an item of a bracket.
-fn comma_item(
-    alloc: Global,
-    frame: Frame,
-    frames: Vec<Frame>,
+/// `]` ends a bracket.
+fn square(alloc: Global, frame: Frame, operand: Expr) -> Result<Option<Made>, AllocError>
+    ensures { IfOk result (λ made. option_map made_of made ≡ made_at end.Square (frame_of frame) (tree_of operand)) }
+{
+    match item(alloc, frame, operand)? {
+        Some((head, filled)) => last_bracket(alloc, head, filled),
+        None => Ok(None),
+    }
+}
+
+/// The next argument of a call begins.
+fn next_arg(
+    name: Text,
+    args: Items<Arg>,
+    target: Option<Text>,
     operand: Expr,
-) -> Result<Option<State>, AllocError>
-    ensures { IfOk result (λ next. option_map state_of next
-        ≡ option_map (λ came. model.next_item came.0 came.1 (frames_of frames.items)) (model.item (frame_of frame) (tree_of operand))) }
+) -> Result<Option<Made>, AllocError>
+    ensures { IfOk result (λ made. option_map made_of made
+        ≡ Some (ends.Want (model.InCall name (grammar.MoreArgs (args_of args) target (tree_of operand)) None))) }
 {
-    let Some((head, filled)) = item(alloc, frame, operand)? else {
-        return Ok(None);
-    };
-    next_item(head, filled, frames)
-}
-
-/// `,` behind an argument of a call.
-fn comma_arg(frame: Frame, frames: Vec<Frame>, operand: Expr) -> Result<Option<State>, AllocError>
-    ensures { IfOk result (λ next. option_map state_of next
-        ≡ option_map (λ call. model.Want (model.InCall call.0 call.1 None ∷ frames_of frames.items)) (last_arg (frame_of frame) (tree_of operand))) }
-{
-    let Some((name, args)) = last_arg(frame, operand)? else {
-        return Ok(None);
-    };
-    let next = Frame::InCall {
+    let args = with_arg(args, target, operand)?;
+    Ok(Some(Made::Want(Frame::InCall {
         name,
         args,
         target: None,
-    };
-    enter(next, frames)
+    })))
 }
 
-/// `,` behind an expression that has come in these frames.
-#[tactic(auto, using(crate::proofs::FrameViews::frames, crate::proofs::EndViews::commas))]
-pub fn comma(
-    alloc: Global,
-    mut frames: Vec<Frame>,
-    operand: Expr,
-) -> Result<Option<State>, AllocError>
-    ensures { IfOk result (λ next. option_map state_of next ≡ model.comma (closed_of frames.items operand)) }
+/// The next item of a bracket begins.
+fn comma_item(alloc: Global, frame: Frame, operand: Expr) -> Result<Option<Made>, AllocError>
+    ensures { IfOk result (λ made. option_map made_of made
+        ≡ option_map (λ came. next_made came.0 came.1) (model.item (frame_of frame) (tree_of operand))) }
 {
-    let Some(frame) = frames.pop() else {
-        drop(operand);
-        return Ok(None);
-    };
-    if is_call(&frame) {
-        return comma_arg(frame, frames, operand);
+    match item(alloc, frame, operand)? {
+        Some((head, filled)) => Ok(Some(next_item(head, filled))),
+        None => Ok(None),
     }
-    comma_item(alloc, frame, frames, operand)
+}
+
+/// `,` ends an argument of a call or an item of a bracket.
+fn comma(alloc: Global, frame: Frame, operand: Expr) -> Result<Option<Made>, AllocError>
+    ensures { IfOk result (λ made. option_map made_of made ≡ made_at end.Comma (frame_of frame) (tree_of operand)) }
+{
+    match frame {
+        Frame::InCall { name, args, target } => next_arg(name, args, target, operand),
+        frame => comma_item(alloc, frame, operand),
+    }
+}
+
+/// The statements with one more.
+fn one_stmt(
+    mut done: Items<Stmt>,
+    line: u32,
+    target: Option<Text>,
+    expr: Expr,
+) -> Result<Items<Stmt>, AllocError>
+    ensures { IfOk result (λ all. stmts_of all ≡ after_stmts (stmts_of done) line target (tree_of expr)) }
+{
+    done.push(Stmt { line, target, expr })?;
+    Ok(done)
 }
 
 /// The statements with this one, where the frame is a statement.
-#[tactic(auto, using(crate::proofs::StepViews::statements))]
-fn with_stmt(frame: Frame, operand: Expr) -> Result<Option<Items<Stmt>>, AllocError>
+pub fn last_stmt(frame: Frame, operand: Expr) -> Result<Option<Items<Stmt>>, AllocError>
     ensures { IfOk result (λ done. option_map stmts_of done ≡ with_stmt (frame_of frame) (tree_of operand)) }
 {
-    let Some((mut done, line, target)) = stmt_parts(frame) else {
-        drop(operand);
-        return Ok(None);
-    };
-    done.push(Stmt {
-        line,
-        target,
-        expr: operand,
-    })?;
-    Ok(Some(done))
+    match frame {
+        Frame::InStmt { done, line, target } => match one_stmt(done, line, target, operand) {
+            Ok(done) => Ok(Some(done)),
+            Err(error) => Err(error),
+        },
+        other => {
+            drop((other, operand));
+            Ok(None)
+        }
+    }
 }
 
-/// A break behind an expression that has come in these frames. The next token stands on line
-/// `next`.
-#[tactic(auto, using(crate::proofs::FrameViews::frames, crate::proofs::EndViews::lines))]
-pub fn break_line(
-    next: u32,
-    mut frames: Vec<Frame>,
+/// A break ends a statement. The next token stands on line `next`.
+fn line(next: u32, frame: Frame, operand: Expr) -> Result<Option<Made>, AllocError>
+    ensures { IfOk result (λ made. option_map made_of made ≡ made_at (end.Break next) (frame_of frame) (tree_of operand)) }
+{
+    match last_stmt(frame, operand)? {
+        Some(done) => Ok(Some(Made::Want(Frame::InStmt {
+            done,
+            line: next,
+            target: None,
+        }))),
+        None => Ok(None),
+    }
+}
+
+/// `:=` ends the left side of an assignment, where the items of a bracket fill i alone.
+fn assigned(head: Head, filled: Filled, operand: Expr) -> Option<Made>
+    ensures { option_map made_of result ≡ made_at end.Assign (model.InItem (head_tree head) (filled_of filled)) (tree_of operand) }
+{
+    match filled {
+        Filled::UpToI { first } => Some(Made::Want(Frame::InAssign {
+            head,
+            first,
+            left: operand,
+        })),
+        other => {
+            drop((other, head, operand));
+            None
+        }
+    }
+}
+
+/// `:=` ends the left side of an assignment, where the item is j.
+fn assign(frame: Frame, operand: Expr) -> Option<Made>
+    ensures { option_map made_of result ≡ made_at end.Assign (frame_of frame) (tree_of operand) }
+{
+    match frame {
+        Frame::InItem { head, filled } => assigned(head, filled, operand),
+        other => {
+            drop((other, operand));
+            None
+        }
+    }
+}
+
+/// What the token makes of the frame, where this expression has come in it.
+pub fn made_at(
+    alloc: Global,
+    end: End,
+    frame: Frame,
     operand: Expr,
-) -> Result<Option<State>, AllocError>
-    ensures { IfOk result (λ state. option_map state_of state ≡ model.break next (closed_of frames.items operand)) }
+) -> Result<Option<Made>, AllocError>
+    ensures { IfOk result (λ made. option_map made_of made ≡ made_at end (frame_of frame) (tree_of operand)) }
 {
-    let Some(frame) = frames.pop() else {
-        drop(operand);
-        return Ok(None);
-    };
-    let Some(done) = with_stmt(frame, operand)? else {
-        return Ok(None);
-    };
-    let begun = Frame::InStmt {
-        done,
-        line: next,
-        target: None,
-    };
-    enter(begun, frames)
-}
-
-/// The statements, where the script may end behind this expression.
-#[tactic(auto, using(crate::proofs::FrameViews::frames, crate::proofs::EndViews::lines))]
-pub fn last_stmt(mut frames: Vec<Frame>, operand: Expr) -> Result<Option<Items<Stmt>>, AllocError>
-    ensures { IfOk result (λ done. option_map stmts_of done ≡ model.last_stmt (closed_of frames.items operand)) }
-{
-    let Some(frame) = frames.pop() else {
-        drop(operand);
-        return Ok(None);
-    };
-    with_stmt(frame, operand)
+    match end {
+        End::Round => round(alloc, frame, operand),
+        End::Square => square(alloc, frame, operand),
+        End::Comma => comma(alloc, frame, operand),
+        End::Break(next) => line(next, frame, operand),
+        End::Assign => Ok(assign(frame, operand)),
+        End::Tilde => tilde(alloc, frame, operand),
+    }
 }

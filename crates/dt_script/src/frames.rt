@@ -9,6 +9,22 @@ pub enum Prefix {
     Negate,
 }
 
+/// A token that ends all operators of what has come.
+#[derive(Clone, Copy)]
+pub enum End {
+    /// `)`
+    Round,
+    /// `]`
+    Square,
+    Comma,
+    /// The end of a line; the next token stands on this one.
+    Break(u32),
+    /// `:=`
+    Assign,
+    /// `~`
+    Tilde,
+}
+
 /// A token as the grammar sees it.
 #[derive(Drop)]
 pub enum Symbol {
@@ -18,17 +34,12 @@ pub enum Symbol {
     Infinite,
     Operator(BinOp),
     Bang,
-    Tilde,
-    Assign,
     Arrow,
     Is,
     Open,
-    Shut,
     OpenSquare,
-    ShutSquare,
-    Comma,
-    Break(u32),
     Semicolon,
+    End(End),
 }
 
 /// What stands before a bracket: an expression that is no query, and the brackets behind it.
@@ -99,6 +110,19 @@ pub enum Frame {
         line: u32,
         target: Option<Text>,
     },
+}
+
+/// What a token makes of the innermost frame.
+#[derive(Drop)]
+pub enum Made {
+    /// An expression has come in the frames around it.
+    Have(Expr),
+    /// A frame, in which an expression is to come.
+    Want(Frame),
+    /// A bracket, where the name of an item is to come.
+    NeedName { head: Head, filled: Filled },
+    /// A formula, where a name is to come.
+    NeedWord(Formula),
 }
 
 /// A formula in the argument of a call, up to its last name: the call, its arguments so far, the

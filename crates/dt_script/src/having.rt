@@ -2,15 +2,16 @@ ghost use Rattle.std.specs.Prelude.{◌≡◌, ◌∷◌, suc, IfOk, Some, optio
 ghost use Rattle.run_model.specs.Grammar as grammar;
 ghost use Rattle.run_model.specs.TreeView.{tree_of};
 ghost use Rattle.dt_grammar.specs.Machine as model;
-ghost use Rattle.dt_script.specs.Frames.{frames_of, state_of, symbol_of};
+ghost use Rattle.dt_script.specs.Ends.{end_step};
+ghost use Rattle.dt_script.specs.Frames.{frame_of, frames_of, state_of, symbol_of};
 
 use crate::brackets::head_of;
-use crate::endings::{break_line, comma, shut, shut_square};
-use crate::frames::{Filled, Frame, State, Symbol};
+use crate::endings::made_at;
+use crate::frames::{End, Filled, Frame, State, Symbol};
 use crate::levels::level;
-use crate::naming::{arrow, assign, naming, opens, tilde};
+use crate::naming::{arrow, naming, opens};
 use crate::operators::{close, infix_op};
-use crate::stack::enter;
+use crate::stack::{enter, settle};
 use dt_tree::{BinOp, Expr};
 use std::alloc::{AllocError, Global};
 
@@ -45,69 +46,39 @@ fn begin_bracket(
     enter(begun, frames)
 }
 
-/// `)` behind an expression: it ends all operators.
-fn end_paren(alloc: Global, frames: Vec<Frame>, operand: Expr) -> Result<Option<State>, AllocError>
-    ensures { IfOk result (λ next. option_map state_of next ≡ model.shut (model.close 0 (frames_of frames.items) (tree_of operand))) }
-{
-    let (frames, operand) = close(alloc, frames, operand, 0)?;
-    shut(alloc, frames, operand)
-}
-
-/// `]` behind an expression: it ends all operators.
-fn end_bracket(
+/// A token behind an expression that has come in this frame.
+pub fn in_frame(
     alloc: Global,
+    end: End,
+    frame: Frame,
     frames: Vec<Frame>,
     operand: Expr,
 ) -> Result<Option<State>, AllocError>
-    ensures { IfOk result (λ next. option_map state_of next ≡ model.shut_square (model.close 0 (frames_of frames.items) (tree_of operand))) }
+    ensures { IfOk result (λ next. option_map state_of next ≡ end_step end (frame_of frame ∷ frames_of frames.items, tree_of operand)) }
 {
-    let (frames, operand) = close(alloc, frames, operand, 0)?;
-    shut_square(alloc, frames, operand)
+    match made_at(alloc, end, frame, operand)? {
+        Some(made) => settle(made, frames),
+        None => Ok(None),
+    }
 }
 
-/// `,` behind an expression: it ends all operators.
-fn end_item(alloc: Global, frames: Vec<Frame>, operand: Expr) -> Result<Option<State>, AllocError>
-    ensures { IfOk result (λ next. option_map state_of next ≡ model.comma (model.close 0 (frames_of frames.items) (tree_of operand))) }
-{
-    let (frames, operand) = close(alloc, frames, operand, 0)?;
-    comma(alloc, frames, operand)
-}
-
-/// A break behind an expression: it ends all operators. The next token stands on line `next`.
-fn end_line(
+/// A token that ends all operators, behind an expression.
+fn ended(
     alloc: Global,
-    next: u32,
+    end: End,
     frames: Vec<Frame>,
     operand: Expr,
 ) -> Result<Option<State>, AllocError>
-    ensures { IfOk result (λ state. option_map state_of state ≡ model.break next (model.close 0 (frames_of frames.items) (tree_of operand))) }
+    ensures { IfOk result (λ next. option_map state_of next ≡ end_step end (model.close 0 (frames_of frames.items) (tree_of operand))) }
 {
-    let (frames, operand) = close(alloc, frames, operand, 0)?;
-    break_line(next, frames, operand)
-}
-
-/// `:=` behind an expression: it ends all operators.
-fn begin_assign(
-    alloc: Global,
-    frames: Vec<Frame>,
-    operand: Expr,
-) -> Result<Option<State>, AllocError>
-    ensures { IfOk result (λ next. option_map state_of next ≡ model.assign (model.close 0 (frames_of frames.items) (tree_of operand))) }
-{
-    let (frames, operand) = close(alloc, frames, operand, 0)?;
-    assign(frames, operand)
-}
-
-/// `~` behind an expression: it ends all operators.
-fn begin_formula(
-    alloc: Global,
-    frames: Vec<Frame>,
-    operand: Expr,
-) -> Result<Option<State>, AllocError>
-    ensures { IfOk result (λ next. option_map state_of next ≡ model.tilde (model.close 0 (frames_of frames.items) (tree_of operand))) }
-{
-    let (frames, operand) = close(alloc, frames, operand, 0)?;
-    tilde(alloc, frames, operand)
+    let (mut frames, operand) = close(alloc, frames, operand, 0)?;
+    match frames.pop() {
+        Some(frame) => in_frame(alloc, end, frame, frames, operand),
+        None => {
+            drop(operand);
+            Ok(None)
+        }
+    }
 }
 
 /// A token behind an expression.
@@ -126,12 +97,7 @@ pub fn have(
         Symbol::OpenSquare => begin_bracket(alloc, frames, operand),
         Symbol::Is => naming(frames, operand),
         Symbol::Arrow => arrow(frames, operand),
-        Symbol::Shut => end_paren(alloc, frames, operand),
-        Symbol::ShutSquare => end_bracket(alloc, frames, operand),
-        Symbol::Comma => end_item(alloc, frames, operand),
-        Symbol::Break(next) => end_line(alloc, next, frames, operand),
-        Symbol::Assign => begin_assign(alloc, frames, operand),
-        Symbol::Tilde => begin_formula(alloc, frames, operand),
+        Symbol::End(end) => ended(alloc, end, frames, operand),
         other => {
             // No expression goes on with it, and none ends.
             drop((other, frames, operand));

@@ -1,14 +1,14 @@
 ghost use Rattle.std.specs.Prelude.{◌≡◌, ◌∷◌, IfOk, Some, option_map};
 ghost use Rattle.run_model.specs.TreeView.{tree_of};
 ghost use Rattle.dt_grammar.specs.Machine as model;
+ghost use Rattle.dt_script.specs.Ends.{made_of, state_with};
 ghost use Rattle.dt_script.specs.Frames.{frame_of, frames_of, state_of, closed_of};
 
-use crate::frames::{Frame, State};
+use crate::frames::{Frame, Made, State};
 use dt_tree::Expr;
 use std::alloc::AllocError;
 
 /// A frame begins: an expression is to come in it.
-#[tactic(auto, using(crate::proofs::FrameViews::frames))]
 pub fn enter(frame: Frame, mut frames: Vec<Frame>) -> Result<Option<State>, AllocError>
     ensures { IfOk result (λ next. option_map state_of next ≡ Some (model.Want (frame_of frame ∷ frames_of frames.items))) }
 {
@@ -17,7 +17,6 @@ pub fn enter(frame: Frame, mut frames: Vec<Frame>) -> Result<Option<State>, Allo
 }
 
 /// The frame goes back on the others, with the expression that has come in it.
-#[tactic(auto, using(crate::proofs::FrameViews::frames))]
 pub fn put_back(
     frame: Frame,
     mut frames: Vec<Frame>,
@@ -31,5 +30,21 @@ pub fn put_back(
             drop((frames, operand));
             Err(error.into())
         }
+    }
+}
+
+/// The state behind what was made of the innermost frame.
+pub fn settle(made: Made, frames: Vec<Frame>) -> Result<Option<State>, AllocError>
+    ensures { IfOk result (λ next. option_map state_of next ≡ Some (state_with (made_of made) (frames_of frames.items))) }
+{
+    match made {
+        Made::Have(operand) => Ok(Some(State::Have { frames, operand })),
+        Made::Want(frame) => enter(frame, frames),
+        Made::NeedName { head, filled } => Ok(Some(State::NeedName {
+            head,
+            filled,
+            frames,
+        })),
+        Made::NeedWord(formula) => Ok(Some(State::NeedWord { formula, frames })),
     }
 }

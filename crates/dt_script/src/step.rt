@@ -1,18 +1,18 @@
-ghost use Rattle.std.specs.Prelude.{◌≡◌, ◌∷◌, ◌++◌, [], IfOk, Some, None, option_map};
+ghost use Rattle.std.specs.Prelude.{◌≡◌, ◌∷◌, ◌++◌, [], IfOk, Some, option_map};
 ghost use Rattle.run_model.specs.TreeView.{tree_of, args_of, stmts_of};
 ghost use Rattle.run_model.specs.GrammarTrees as grammar;
 ghost use Rattle.dt_grammar.specs.Machine as model;
-ghost use Rattle.dt_script.specs.Frames.{head_tree, filled_of, frames_of, state_of, symbol_of, call_of};
+ghost use Rattle.dt_script.specs.Ends.{end_step};
+ghost use Rattle.dt_script.specs.Frames.{head_tree, filled_of, frames_of, state_of, symbol_of};
 
-use crate::brackets::with_arg;
 use crate::endings::last_stmt;
-use crate::frames::{Filled, Formula, Frame, Head, State, Symbol};
-use crate::having::have;
+use crate::frames::{End, Filled, Formula, Frame, Head, State, Symbol};
+use crate::having::{have, in_frame};
 use crate::operators::close;
 use crate::stack::enter;
 use crate::wanting::want;
 use dt_base::{Op, Text};
-use dt_tree::{Arg, BinOp, Expr, Stmt};
+use dt_tree::{BinOp, Expr, Stmt};
 use sqlite_items::Items;
 use std::alloc::{AllocError, Global};
 
@@ -85,21 +85,16 @@ fn need_word(
     }
 }
 
-/// An operator behind the names on the right of `~`: behind `+` one more name is to come.
-fn more_names(op: BinOp, formula: Formula, frames: Vec<Frame>) -> Option<State>
-    ensures { option_map state_of result
-        ≡ model.step (model.HaveWords formula.call (args_of formula.args) formula.target formula.left formula.right (frames_of frames.items)) (grammar.Operator op) }
-{
-    match op {
-        BinOp::Arith(Op::Add) => Some(State::NeedWord { formula, frames }),
-        _ => None,
-    }
-}
-
-/// The call that a formula stands in, with the formula as its last argument.
-#[tactic(auto, using(dt_grammar::proofs::Trees::trees))]
-fn argument(formula: Formula) -> Result<(Text, Items<Arg>), AllocError>
-    ensures { IfOk result (λ call. call_of call ≡ (formula.call, grammar.MoreArgs (args_of formula.args) formula.target (grammar.Formula formula.left formula.right))) }
+/// A token that ends the call of a formula, or its argument: the formula is the expression that has
+/// come in it.
+fn ended(
+    alloc: Global,
+    end: End,
+    formula: Formula,
+    frames: Vec<Frame>,
+) -> Result<Option<State>, AllocError>
+    ensures { IfOk result (λ next. option_map state_of next
+        ≡ end_step end (model.InCall formula.call (args_of formula.args) formula.target ∷ frames_of frames.items, grammar.Formula formula.left formula.right)) }
 {
     let Formula {
         call,
@@ -108,39 +103,17 @@ fn argument(formula: Formula) -> Result<(Text, Items<Arg>), AllocError>
         left,
         right,
     } = formula;
-    let args = with_arg(args, target, Expr::Formula { left, right })?;
-    Ok((call, args))
-}
-
-/// `)` behind a formula, which is the last argument of its call.
-#[tactic(auto, using(dt_grammar::proofs::Trees::trees))]
-fn end_call(formula: Formula, frames: Vec<Frame>) -> Result<Option<State>, AllocError>
-    ensures { IfOk result (λ next. option_map state_of next
-        ≡ Some (model.Have (frames_of frames.items) (grammar.Call formula.call (grammar.MoreArgs (args_of formula.args) formula.target (grammar.Formula formula.left formula.right))))) }
-{
-    let (name, args) = argument(formula)?;
-    Ok(Some(State::Have {
-        frames,
-        operand: Expr::Call { name, args },
-    }))
-}
-
-/// `,` behind a formula: the next argument of its call begins.
-fn next_argument(formula: Formula, frames: Vec<Frame>) -> Result<Option<State>, AllocError>
-    ensures { IfOk result (λ next. option_map state_of next
-        ≡ Some (model.Want (model.InCall formula.call (grammar.MoreArgs (args_of formula.args) formula.target (grammar.Formula formula.left formula.right)) None ∷ frames_of frames.items))) }
-{
-    let (name, args) = argument(formula)?;
-    let next = Frame::InCall {
-        name,
+    let frame = Frame::InCall {
+        name: call,
         args,
-        target: None,
+        target,
     };
-    enter(next, frames)
+    in_frame(alloc, end, frame, frames, Expr::Formula { left, right })
 }
 
 /// A token behind the names on the right of `~`.
 fn have_words(
+    alloc: Global,
     formula: Formula,
     frames: Vec<Frame>,
     symbol: Symbol,
@@ -149,9 +122,9 @@ fn have_words(
         ≡ model.step (model.HaveWords formula.call (args_of formula.args) formula.target formula.left formula.right (frames_of frames.items)) (symbol_of symbol)) }
 {
     match symbol {
-        Symbol::Operator(op) => Ok(more_names(op, formula, frames)),
-        Symbol::Shut => end_call(formula, frames),
-        Symbol::Comma => next_argument(formula, frames),
+        Symbol::Operator(BinOp::Arith(Op::Add)) => Ok(Some(State::NeedWord { formula, frames })),
+        Symbol::End(End::Round) => ended(alloc, End::Round, formula, frames),
+        Symbol::End(End::Comma) => ended(alloc, End::Comma, formula, frames),
         other => {
             drop((other, formula));
             Ok(None)
@@ -178,7 +151,7 @@ pub fn step(alloc: Global, state: State, symbol: Symbol) -> Result<Option<State>
             frames,
         } => need_is(head, filled, name, frames, symbol),
         State::NeedWord { formula, frames } => need_word(formula, frames, symbol),
-        State::HaveWords { formula, frames } => have_words(formula, frames, symbol),
+        State::HaveWords { formula, frames } => have_words(alloc, formula, frames, symbol),
     }
 }
 
@@ -207,8 +180,14 @@ fn finish_stmt(
 ) -> Result<Option<Items<Stmt>>, AllocError>
     ensures { IfOk result (λ done. option_map stmts_of done ≡ model.finish (model.Have (frames_of frames.items) (tree_of operand))) }
 {
-    let (frames, operand) = close(alloc, frames, operand, 0)?;
-    last_stmt(frames, operand)
+    let (mut frames, operand) = close(alloc, frames, operand, 0)?;
+    match frames.pop() {
+        Some(frame) => last_stmt(frame, operand),
+        None => {
+            drop(operand);
+            Ok(None)
+        }
+    }
 }
 
 /// The statements, where the script may end here.

@@ -3,7 +3,7 @@ ghost use Rattle.run_model.specs.TokenView as view;
 ghost use Rattle.run_model.specs.GrammarTrees as grammar;
 ghost use Rattle.dt_script.specs.Frames.{symbol_of};
 
-use crate::frames::Symbol;
+use crate::frames::{End, Symbol};
 use dt_base::{Cell, ColType, Op};
 use dt_tree::{BinOp, Literal, Sign, Token};
 use std::alloc::AllocError;
@@ -45,15 +45,15 @@ fn of_sign(sign: Sign) -> Symbol
         Sign::Or => Symbol::Operator(BinOp::Arith(Op::Or)),
         Sign::Range => Symbol::Operator(BinOp::Range),
         Sign::Arrow => Symbol::Arrow,
-        Sign::Assign => Symbol::Assign,
+        Sign::Assign => Symbol::End(End::Assign),
         Sign::Open => Symbol::Open,
-        Sign::Shut => Symbol::Shut,
+        Sign::Shut => Symbol::End(End::Round),
         Sign::OpenSquare => Symbol::OpenSquare,
-        Sign::ShutSquare => Symbol::ShutSquare,
-        Sign::Comma => Symbol::Comma,
+        Sign::ShutSquare => Symbol::End(End::Square),
+        Sign::Comma => Symbol::End(End::Comma),
         Sign::Semi => Symbol::Semicolon,
         Sign::Bang => Symbol::Bang,
-        Sign::Tilde => Symbol::Tilde,
+        Sign::Tilde => Symbol::End(End::Tilde),
         Sign::Is => Symbol::Is,
     }
 }
@@ -74,6 +74,6 @@ pub fn symbol(token: &Token) -> Result<Symbol, AllocError>
             kind: ColType::Chr,
         },
         Token::Sign(sign) => of_sign(*sign),
-        Token::Break(next) => Symbol::Break(*next),
+        Token::Break(next) => Symbol::End(End::Break(*next)),
     })
 }

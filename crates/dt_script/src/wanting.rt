@@ -1,59 +1,23 @@
-ghost use Rattle.std.specs.Prelude.{◌≡◌, IfOk, None, option_map};
-ghost use Rattle.run_model.specs.GrammarTrees.{Typed, Null, Infinite, Lit, Var, Operator};
+ghost use Rattle.std.specs.Prelude.{◌≡◌, ◌∷◌, IfOk, None, option_map};
+ghost use Rattle.run_model.specs.GrammarTrees.{Operator};
 ghost use Rattle.run_model.specs.TreeView.{tree_of};
 ghost use Rattle.dt_grammar.specs.Machine as model;
-ghost use Rattle.dt_script.specs.Frames.{frames_of, state_of, symbol_of};
+ghost use Rattle.dt_script.specs.Ends.{none_step};
+ghost use Rattle.dt_script.specs.Frames.{frame_of, frames_of, state_of, symbol_of};
 
-use crate::endings::{break_none, comma_none, shut_none, shut_square_none};
-use crate::frames::{Frame, Prefix, State, Symbol};
+use crate::empties::made_none;
+use crate::frames::{End, Frame, Prefix, State, Symbol};
 use crate::operators::front;
-use crate::stack::enter;
-use dt_base::{Cell, ColType, Op, Text};
+use crate::stack::{enter, settle};
+use dt_base::Op;
 use dt_tree::{BinOp, Expr};
 use std::alloc::{AllocError, Global};
 
-/// A literal with a type.
-#[tactic(auto, using(dt_grammar::proofs::Trees::trees))]
-fn literal(cell: Cell, kind: ColType, frames: Vec<Frame>) -> State
-    ensures { state_of result ≡ model.Have (frames_of frames.items) (Lit (Typed cell kind)) }
+/// An expression of one token has come.
+fn came(frames: Vec<Frame>, operand: Expr) -> State
+    ensures { state_of result ≡ model.Have (frames_of frames.items) (tree_of operand) }
 {
-    State::Have {
-        frames,
-        operand: Expr::Lit { cell, kind },
-    }
-}
-
-/// `NULL`.
-#[tactic(auto, using(dt_grammar::proofs::Trees::trees))]
-fn null(frames: Vec<Frame>) -> State
-    ensures { state_of result ≡ model.Have (frames_of frames.items) (Lit Null) }
-{
-    State::Have {
-        frames,
-        operand: Expr::Null,
-    }
-}
-
-/// `Inf`.
-#[tactic(auto, using(dt_grammar::proofs::Trees::trees))]
-fn infinite(frames: Vec<Frame>) -> State
-    ensures { state_of result ≡ model.Have (frames_of frames.items) (Lit Infinite) }
-{
-    State::Have {
-        frames,
-        operand: Expr::Infinite,
-    }
-}
-
-/// A name.
-#[tactic(auto, using(dt_grammar::proofs::Trees::trees))]
-fn name(name: Text, frames: Vec<Frame>) -> State
-    ensures { state_of result ≡ model.Have (frames_of frames.items) (Var name) }
-{
-    State::Have {
-        frames,
-        operand: Expr::Name { name },
-    }
+    State::Have { frames, operand }
 }
 
 /// A two-sided operator where an expression is to come: only `-` has a one-sided sense.
@@ -63,6 +27,31 @@ fn operator(op: BinOp, frames: Vec<Frame>) -> Result<Option<State>, AllocError>
     match op {
         BinOp::Arith(Op::Sub) => front(Prefix::Negate, frames),
         _ => Ok(None),
+    }
+}
+
+/// A token that ends all operators, where nothing has come in the innermost frame.
+fn ended(alloc: Global, end: End, mut frames: Vec<Frame>) -> Result<Option<State>, AllocError>
+    ensures { IfOk result (λ next. option_map state_of next ≡ none_step end (frames_of frames.items)) }
+{
+    match frames.pop() {
+        Some(frame) => empty_frame(alloc, end, frame, frames),
+        None => Ok(None),
+    }
+}
+
+/// The same in this frame.
+fn empty_frame(
+    alloc: Global,
+    end: End,
+    frame: Frame,
+    frames: Vec<Frame>,
+) -> Result<Option<State>, AllocError>
+    ensures { IfOk result (λ next. option_map state_of next ≡ none_step end (frame_of frame ∷ frames_of frames.items)) }
+{
+    match made_none(alloc, end, frame)? {
+        Some(made) => settle(made, frames),
+        None => Ok(None),
     }
 }
 
@@ -78,22 +67,14 @@ pub fn want(alloc: Global, frames: Vec<Frame>, symbol: Symbol) -> Result<Option<
     ensures { IfOk result (λ next. option_map state_of next ≡ model.step (model.Want (frames_of frames.items)) (symbol_of symbol)) }
 {
     match symbol {
-        Symbol::Literal { cell, kind } => Ok(Some(literal(cell, kind, frames))),
-        Symbol::Null => Ok(Some(null(frames))),
-        Symbol::Infinite => Ok(Some(infinite(frames))),
-        Symbol::Name(text) => Ok(Some(name(text, frames))),
+        Symbol::Literal { cell, kind } => Ok(Some(came(frames, Expr::Lit { cell, kind }))),
+        Symbol::Null => Ok(Some(came(frames, Expr::Null))),
+        Symbol::Infinite => Ok(Some(came(frames, Expr::Infinite))),
+        Symbol::Name(name) => Ok(Some(came(frames, Expr::Name { name }))),
         Symbol::Operator(op) => operator(op, frames),
         Symbol::Bang => front(Prefix::Not, frames),
         Symbol::Open => enter(Frame::InParen, frames),
-        Symbol::Shut => Ok(shut_none(frames)),
-        Symbol::ShutSquare => shut_square_none(alloc, frames),
-        Symbol::Comma => comma_none(alloc, frames),
-        Symbol::Break(next) => break_none(next, frames),
-        Symbol::Tilde
-        | Symbol::Assign
-        | Symbol::Arrow
-        | Symbol::Is
-        | Symbol::OpenSquare
-        | Symbol::Semicolon => Ok(refuse(frames)),
+        Symbol::End(end) => ended(alloc, end, frames),
+        Symbol::Arrow | Symbol::Is | Symbol::OpenSquare | Symbol::Semicolon => Ok(refuse(frames)),
     }
 }
