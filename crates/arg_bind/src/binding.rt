@@ -2,12 +2,12 @@ ghost use Rattle.std.specs.Prelude.{◌≡◌, IfErr, ◌<◌, ◌==◌, [], map
 ghost use Rattle.session_model.specs.Expression.{names_in};
 ghost use Rattle.session_model.specs.Meaning.{arg_meaning};
 ghost use Rattle.session_model.specs.Binding.{free_count, unnamed_count, place_of, places, is_formal, is_bad, names_fine, missing_word, is_lacking, all_there, word_in, counted, bound_to_formals, bound_unnamed, bound};
-ghost use Rattle.arg_bind.specs.Answers.{Answers, IsOwn};
+ghost use Rattle.eval_fail.specs.Answers.{Answers, IsOwn};
 
-use crate::fail::{EvalFail, stop};
 use crate::places::{is_free_formal, is_unnamed, next, place, place_named};
 use dt_base::Code;
 use dt_tree::Arg;
+use eval_fail::{EvalFail, stop};
 use func_table::{Arity, Formal, Func, arity_of, formal_word, formals, func_word, is_needed};
 use std::alloc::Global;
 

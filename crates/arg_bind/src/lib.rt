@@ -3,8 +3,6 @@
 //! - `bind` tells the first fault of the binding, or none. After it, `place` gives the argument that
 //!   a formal takes, and `next` counts the formals before it.
 //! - `bare_name` and `text_literal` read an argument that counts as it is written.
-//! - `EvalFail` is what everything that values a call answers: a fault, or want of memory. `stop`,
-//!   `stop_number`, `stop_length` and `stop_unbuilt` make it.
 //!
 //! It stands on the tables of `func_table` and on the definitions of `session_model`, and serves
 //! every function and command alike: a further one is a further row in the tables. It promises
@@ -13,14 +11,9 @@
 #![tactic(auto)]
 
 mod binding;
-mod fail;
 mod forms;
 mod places;
 
 pub use binding::bind;
-pub use fail::{EvalFail, stop, stop_length, stop_number, stop_unbuilt};
 pub use forms::{bare_name, text_literal};
 pub use places::{next, place};
-
-#[cfg(test)]
-mod tests;

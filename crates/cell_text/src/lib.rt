@@ -14,6 +14,3 @@ mod write;
 
 pub use read::{field_truth, integer_of, truth_of};
 pub use write::{push_integer, truth_text};
-
-#[cfg(test)]
-mod tests;

@@ -92,18 +92,18 @@ as_wide : (header : Record) (rows : List Record) → length (records_columns hea
 as_wide header rows = length-map _ _ ∙ length-range_with_len 0 (length header)
 
 -- the table of a frame under these names reads as the definition says
-pub table_is : (header : Record) (rows : List Record) (frame : FrameSeen) → vectors_of frame.columns ≡ records_columns header rows
-    → frame.rows ≡ length rows → plain (made (column_names header) frame) ≡ records_table header rows
-table_is header rows frame columns count =
+pub table_is : (header : Record) (rows : List Record) (frame : FrameSeen) (spare : ℕ) → vectors_of frame.columns ≡ records_columns header rows
+    → frame.rows ≡ length rows → plain (made (column_names header) frame spare) ≡ records_table header rows
+table_is header rows frame spare columns count =
     let wide : length (column_names header) ≡ length (records_columns header rows) =
     names_after-length header [] ∙ omega arith ∙ sym (as_wide header rows) in
     rw (columns, count, wide) refl
 
 -- what reading answers where nothing is at fault
-pub reads_as : (header : Record) (rows : List Record) (frame : FrameSeen) (t : TableSeen) (w : Warns)
+pub reads_as : (header : Record) (rows : List Record) (frame : FrameSeen) (spare : ℕ) (t : TableSeen) (w : Warns)
     → header_fault header ≡ None → rows_fault (length header) 0 rows ≡ None
-    → t ≡ made (column_names header) frame → w ≡ name_warns header
+    → t ≡ made (column_names header) frame spare → w ≡ name_warns header
     → vectors_of frame.columns ≡ records_columns header rows → frame.rows ≡ length rows
     → read_records (header ∷ rows) ≡ Ok (plain t, w)
-reads_as header rows frame t w first rest is_made warned columns count =
-    rw (first, rest, is_made, warned, table_is header rows frame columns count) refl
+reads_as header rows frame spare t w first rest is_made warned columns count =
+    rw (first, rest, is_made, warned, table_is header rows frame spare columns count) refl

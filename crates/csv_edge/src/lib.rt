@@ -30,6 +30,3 @@ mod writer;
 pub use fail::CsvFail;
 pub use read::read_table;
 pub use write::write_table;
-
-#[cfg(test)]
-mod tests;

@@ -24,7 +24,8 @@ pub(crate) fn named_table(
     requires columns { length (fields_of header.now) ≤ MAX_COLUMNS }
     requires rows { frame.rows ≤ MAX_ROWS }
     requires cells { frame.rows * length frame.columns ≤ MAX_CELLS }
-    ensures table { IfOk result (λ p. p.0 ≡ made (file.column_names (fields_of header.now)) frame) }
+    ensures table { IfOk result (λ p.
+        p.0 ≡ made (file.column_names (fields_of header.now)) frame p.0.spare) }
     ensures warns { IfOk result (λ p. p.1 ≡ file.name_warns (fields_of header.now)) }
 {
     let names = column_names(alloc, header)?;

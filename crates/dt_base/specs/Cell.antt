@@ -1,7 +1,7 @@
 -- Cells, and the type that a cell has.
 --   seen c          the cell that a borrowed cell shows
 --   IsOfType t c    the cell c may stand in a column of type t
-use Rattle.std.specs.Prelude.{◌≡◌, ℤ, Bool, List, negsuc, ◌^◌, ◌-◌}
+use Rattle.std.specs.Prelude.{◌≡◌, negsuc, ◌^◌, ◌-◌}
 use Rattle.dt_base.specs.declared.cell.Cell.{Cell}
 use Rattle.dt_base.specs.declared.cell.Cell.TheVariants.{Na, Lgl, Int, Text}
 use Rattle.dt_base.specs.declared.cell.CellRef.{CellRef}

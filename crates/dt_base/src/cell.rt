@@ -5,7 +5,7 @@ use crate::Text;
 use std::alloc::{AllocError, Global};
 
 /// The type of a column, lowest first: the common type of two is the higher one.
-#[derive(Clone, Copy, Debug, PartialEq, Eq, PartialOrd, Ord)]
+#[derive(Clone, Copy, PartialEq, Eq)]
 pub enum ColType {
     Lgl,
     Int,
@@ -13,10 +13,7 @@ pub enum ColType {
 }
 
 /// One cell: NA, or a value of one of the three types. No cell holds the integer -2^63.
-///
-/// The derived order is the order of cells within one type: NA first, FALSE before TRUE, integers
-/// by value, texts by their bytes. Two NA are equal.
-#[derive(Debug, Drop, PartialEq, Eq, PartialOrd, Ord, Hash)]
+#[derive(Drop)]
 pub enum Cell {
     Na,
     Lgl(bool),
@@ -25,7 +22,7 @@ pub enum Cell {
 }
 
 /// A cell that is only looked at.
-#[derive(Clone, Copy, Debug)]
+#[derive(Clone, Copy)]
 pub enum CellRef<'a> {
     Na,
     Lgl(bool),

@@ -5,7 +5,7 @@ use crate::Text;
 use std::alloc::{AllocError, Global};
 
 /// What a fault is about. The texts of the codes stand in the table of faults.
-#[derive(Clone, Copy, Debug, PartialEq, Eq)]
+#[derive(Clone, Copy)]
 pub enum Code {
     /// Syntax.
     E01,
@@ -59,7 +59,7 @@ pub enum Code {
 
 /// Why a statement was refused: its code, the name, operator or argument at fault, and the numbers
 /// that its text tells. What a text does not tell is empty or 0.
-#[derive(Debug, Drop)]
+#[derive(Drop)]
 pub struct Fault {
     pub code: Code,
     pub what: Text,

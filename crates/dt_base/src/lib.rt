@@ -29,6 +29,3 @@ pub use operators::{Op, UnOp};
 pub use steps::Steps;
 pub use text::{ColName, Text};
 pub use warns::{Warn, Warns};
-
-#[cfg(test)]
-mod tests;

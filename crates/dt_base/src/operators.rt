@@ -1,5 +1,5 @@
 /// A two-sided operator whose sides are taken place by place.
-#[derive(Clone, Copy, Debug, PartialEq, Eq)]
+#[derive(Clone, Copy)]
 pub enum Op {
     Add,
     Sub,
@@ -19,7 +19,7 @@ pub enum Op {
 }
 
 /// A one-sided operator, or `is.na`.
-#[derive(Clone, Copy, Debug, PartialEq, Eq)]
+#[derive(Clone, Copy)]
 pub enum UnOp {
     Neg,
     Not,

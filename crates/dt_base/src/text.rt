@@ -14,7 +14,7 @@ use std::marker::Model;
 
 /// A text. Contracts see its bytes, which are UTF-8. Texts are equal, ordered and hashed by their
 /// bytes.
-#[derive(Debug, Drop)]
+#[derive(Drop)]
 pub struct Text {
     inner: String,
 }

@@ -1,7 +1,7 @@
 ghost use Rattle.std.specs.Prelude.{◌≡◌};
 
 /// What a statement says beside its answer.
-#[derive(Clone, Copy, Debug, PartialEq, Eq)]
+#[derive(Clone, Copy)]
 pub enum Warn {
     /// An integer that is neither 0 nor 1 became TRUE.
     W01,
@@ -18,7 +18,7 @@ pub enum Warn {
 }
 
 /// A set of warnings.
-#[derive(Clone, Copy, Debug, PartialEq, Eq)]
+#[derive(Clone, Copy)]
 pub struct Warns {
     pub w01: bool,
     pub w02: bool,

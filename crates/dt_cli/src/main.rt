@@ -1,82 +1,48 @@
 //! The program `dtq`: it runs the script that its words name, or only reads it.
 //!
-//! - `run` is the whole program over any files and sinks; `main` calls it over those of the machine.
-//! - `words` reads the words by the crate `clap`, and has the law on plain words.
-//! - `check` reads a script and does no more; `telling` puts the lines that `run` itself tells.
+//! - `run`, of `dt_run`, is the whole program over any files and sinks, and `Status` how it ended.
+//! - `ending` makes the words out of the arguments of the process, calls `run`, and tells the number
+//!   that the process ends with; `main` has it do so over the files and outputs of the machine.
 //!
-//! It stands on `dt_session` for scripts, on `dt_script` for `--check`, on `dt_world` for the outside
-//! and on `dt_print` for the lines of faults.
-//!
-//! It promises that the files, what is put and the status are those of the plain evaluation of the
-//! words, `Headline` in specs/Run; that the usage is told by the words alone; and that each answer
-//! that blames the outside comes only where a count of it rose.
+//! It promises that this number is that of the status which `run` answers on the words after the
+//! program's name, all of them, or that of why they could not be had.
 #![tactic(auto)]
 
-ghost use Rattle.std.specs.Prelude.{◌≡◌, ◌≢◌, ◌<◌, map, string_bytes};
-ghost use Rattle.dt_cli.specs.Run.{IsByWords};
-ghost use Rattle.dt_cli.specs.Words.{LacksScript, with_name};
+ghost use Rattle.std.specs.Prelude.{◌≡◌, ◌<◌, MatchResult, map, string_bytes};
+ghost use Rattle.std.specs.Vec.Iter.{into_iter_items};
+ghost use Rattle.std.specs.IoError.{error_kind};
+ghost use Rattle.dt_run.specs.Exit.{exit_number};
+ghost use Rattle.dt_run.specs.Run.{IsByWords};
+ghost use Rattle.dt_cli.specs.Ending.{IsNumberOf, wordless, words_behind};
 
-mod check;
-mod run;
-mod status;
-mod telling;
-mod words;
+mod ending;
 
-use crate::run::run;
-use crate::status::Status;
+use crate::ending::ended;
 use dt_base::Steps;
+pub use dt_run::{Status, run};
 use dt_world::{RealFiles, RealOut};
-use std::env;
-use std::io::ErrorKind;
+use std::env::Args;
 use std::marker::Brand;
 use std::process::ExitCode;
 use std::sync::ledger::{Blank, Ledger};
+use std::{env, io};
 
-/// Runs the program over the files of the machine and its two standard outputs.
-fn run_real<L: Ledger>(rt: &HostRuntime, words: &[String], blank: Blank) -> Status
+/// The number that the process ends with, once the program ran over the files of the machine and its
+/// two standard outputs.
+fn ended_here<L: Ledger>(rt: &HostRuntime, all: io::Result<Args>, blank: Blank) -> u8
     requires name { blank.name ≡ L.name }
     requires parts { blank.parts ≡ L.parts }
     requires some { 0 < blank.parts }
-    ensures words { IsByWords (map string_bytes words.now) result }
-    ensures usage { result ≡ Status.Usage → LacksScript (with_name (map string_bytes words.now)) }
+    ensures { MatchResult all (λ a. IsNumberOf (IsByWords (words_behind (map string_bytes (into_iter_items a)))) result) (λ e. result ≡ exit_number (wordless (error_kind e))) }
 {
     let mut steps = Steps::<L>::new(blank);
     let mut files = RealFiles::new(rt.alloc(), rt);
     let mut out = RealOut::new(rt.stdout());
     let mut err = RealOut::new(rt.stderr());
-    run(
-        rt.alloc(),
-        words,
-        &mut files,
-        &mut out,
-        &mut err,
-        &mut steps,
-    )
-}
-
-/// The status of a run whose words could not be had.
-fn wordless(kind: ErrorKind) -> Status
-    ensures memory { kind ≡ ErrorKind.OutOfMemory → result ≡ Status.NoMemory }
-    ensures other { kind ≢ ErrorKind.OutOfMemory → result ≡ Status.ReadFault }
-{
-    if kind == ErrorKind::OutOfMemory {
-        Status::NoMemory
-    } else {
-        Status::ReadFault
-    }
+    ended(rt.alloc(), all, &mut files, &mut out, &mut err, &mut steps)
 }
 
 fn main(rt: HostRuntime) -> ExitCode {
-    let all = match env::args(&rt) {
-        Ok(all) => all,
-        Err(error) => return ExitCode::from(wordless(error.kind()).number()),
-    };
-    let words: Vec<String> = match all.skip(1).collect(rt.alloc()) {
-        Ok(words) => words,
-        Err(_) => return ExitCode::from(Status::NoMemory.number()),
-    };
-    ExitCode::from(run_real::<Brand>(&rt, &words, Blank::new(1)).number())
+    let all = env::args(&rt);
+    ExitCode::from(ended_here::<Brand>(&rt, all, Blank::new(1)))
 }
-
-#[cfg(test)]
-mod tests;

@@ -12,7 +12,5 @@
 
 mod inner;
 mod outer;
-#[cfg(test)]
-mod tests;
 
 pub use outer::misplaced_at;

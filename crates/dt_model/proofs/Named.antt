@@ -1,4 +1,4 @@
-use Rattle.std.proofs.Common.{◌≡◌, ◌⊎◌, ℕ, List, [], ◌∷◌, Bool, true, false, cond, not, T, Option, Some, None, IsSome, is_some, refl, sym, ap, subst, ◌∙◌, nat_eq, true≢false, ◌||◌, ◌&&◌, inl, inr}
+use Rattle.std.proofs.Common.{◌≡◌, ◌⊎◌, ℕ, List, [], ◌∷◌, Bool, true, false, cond, T, Option, Some, None, IsSome, is_some, refl, sym, ap, subst, ◌∙◌, true≢false, ◌||◌, ◌&&◌, inl, inr}
 use Rattle.std.specs.List.{list_any}
 use Rattle.std.specs.Ordering.{nat_cmp, eq_by_cmp, is_eq, is_lt}
 use Rattle.std.specs.Cmp.{unsigned_ties}

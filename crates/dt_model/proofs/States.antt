@@ -1,10 +1,10 @@
-use Rattle.std.proofs.Common.{◌≡◌, ◌≤◌, ◌+◌, ℕ, List, [], ◌∷◌, Bool, true, false, cond, Option, Some, None, IsSome, is_some, refl, sym, ap, subst, ◌∙◌, nat_eq, true≢false, ◌||◌, arith}
+use Rattle.std.proofs.Common.{◌≡◌, ◌≤◌, ◌+◌, ℕ, List, [], ◌∷◌, Bool, true, false, cond, Option, Some, None, IsSome, is_some, refl, sym, ap, subst, ◌∙◌, true≢false, ◌||◌, arith}
 use Rattle.std.specs.List.{list_any}
 use Rattle.std.specs.Ordering.{nat_cmp, eq_by_cmp}
 use Rattle.std.specs.Cmp.Lexicographic.{slice_cmp, nat_list_cmp_total}
 use Rattle.std.specs.Cmp.{unsigned_ties}
 use Rattle.std.proofs.lemmas.Bool.{eqb-true}
-use Rattle.std.specs.FinMap.{find, get, insert, remove, entries, empty, get-entries, get-empty, get-insert, get-remove}
+use Rattle.std.specs.FinMap.{find, get, insert, remove, entries, get-entries, get-empty, get-insert, get-remove}
 use Rattle.std.proofs.lemmas.Cmp.{nat_cmp_total, eq_by_cmp_equiv}
 use Rattle.dt_model.specs.Table.{PlainTable}
 use Rattle.dt_model.specs.State.{Bound, Table, Vector, Names, Tables, State, IsState, IsLive, is_table, has_name, swept, bound_to, bound_new, removed, added, with_table, empty_state}

@@ -7,7 +7,7 @@
 --   becomes_na t c       to bring c to t makes NA of a text
 --   coerced t v          the vector v brought to the type t
 --   coercion_warns t v   the warnings of that: each that some cell of v has
-use Rattle.std.specs.Prelude.{ℤ, pos, Bool, true, false, not, ◌&&◌, List, map, Option, None, Some, if◌then◌else◌}
+use Rattle.std.specs.Prelude.{ℤ, pos, Bool, true, false, not, ◌&&◌, map, Option, None, Some, if◌then◌else◌}
 use Rattle.std.specs.List.{list_any}
 use Rattle.std.specs.Ordering.{int_eq}
 use Rattle.std.specs.Fmt.{signed_decimal}
@@ -28,9 +28,12 @@ is_na _ = false
 -- types rise from Lgl to Int to Chr, and the common type of two is the higher one
 abbrev pub common : ColType → ColType → ColType
 common ty.Lgl u = u
+common ty.Int ty.Lgl = ty.Int
+common ty.Int ty.Int = ty.Int
 common ty.Int ty.Chr = ty.Chr
-common ty.Int _ = ty.Int
-common ty.Chr _ = ty.Chr
+common ty.Chr ty.Lgl = ty.Chr
+common ty.Chr ty.Int = ty.Chr
+common ty.Chr ty.Chr = ty.Chr
 
 -- a truth value as a cell, and NA where there is none
 abbrev pub lgl_or_na : Option Bool → Cell
@@ -74,12 +77,18 @@ brought ty.Chr c = to_text c
 -- an integer that is neither 0 nor 1 becomes TRUE
 abbrev pub becomes_true : ColType → Cell → Bool
 becomes_true ty.Lgl (is.Int n) = not (int_eq n (pos 0)) && not (int_eq n (pos 1))
-becomes_true _ _ = false
+becomes_true ty.Lgl (is.Lgl b) = false
+becomes_true ty.Lgl (is.Text t) = false
+becomes_true ty.Lgl is.Na = false
+becomes_true ty.Int c = false
+becomes_true ty.Chr c = false
 
 -- a text becomes NA
 abbrev pub becomes_na : ColType → Cell → Bool
 becomes_na t (is.Text s) = is_na (brought t (is.Text s))
-becomes_na _ _ = false
+becomes_na t (is.Lgl b) = false
+becomes_na t (is.Int n) = false
+becomes_na t is.Na = false
 
 -- each cell brought to the type
 abbrev pub coerced : ColType → Vector → Vector

@@ -10,7 +10,7 @@
 --   unary o a              an operation on one vector
 --   chosen test a b        for each place the cell of a or that of b: `fifelse`
 --   contained a b          for each cell of a whether b has it: `%in%`
-use Rattle.std.specs.Prelude.{ℕ, ◌+◌, ◌/◌, ◌^◌, ℤ, pos, negsuc, neg_ℤ, ◌+ℤ◌, ◌-ℤ◌, ◌*ℤ◌, unsigned_abs, Bool, true, false, not, ◌||◌, ◌&&◌, ◌==◌, nat_lt, if◌then◌else◌, List, length, map, ◌++◌, position, Option, None, Some, is_none, Result, Ok, Err}
+use Rattle.std.specs.Prelude.{ℕ, ◌/◌, ◌^◌, ℤ, pos, negsuc, neg_ℤ, ◌+ℤ◌, ◌-ℤ◌, ◌*ℤ◌, unsigned_abs, Bool, true, false, not, ◌||◌, ◌==◌, nat_lt, if◌then◌else◌, List, length, map, position, Option, None, Some, Result, Ok, Err}
 use Rattle.std.specs.List.{list_any, range_with_len}
 use Rattle.std.specs.Cmp.Lexicographic.{slice_cmp}
 use Rattle.std.specs.Str.{bytes_eq}
@@ -45,9 +45,11 @@ pub data OpFault : Type 0 where
 
 -- arithmetic takes logicals and integers, and gives integers
 abbrev pub arithmetic_type : ColType → ColType → Option ColType
-arithmetic_type ty.Chr _ = None
-arithmetic_type _ ty.Chr = None
-arithmetic_type _ _ = Some ty.Int
+arithmetic_type ty.Lgl ty.Lgl = Some ty.Int
+arithmetic_type ty.Lgl ty.Int = Some ty.Int
+arithmetic_type ty.Int ty.Lgl = Some ty.Int
+arithmetic_type ty.Int ty.Int = Some ty.Int
+arithmetic_type _ _ = None
 
 -- `&` and `|` take logicals and give logicals
 abbrev pub logic_type : ColType → ColType → Option ColType
@@ -63,7 +65,12 @@ op_type op.Div t u = arithmetic_type t u
 op_type op.Mod t u = arithmetic_type t u
 op_type op.And t u = logic_type t u
 op_type op.Or t u = logic_type t u
-op_type _ _ _ = Some ty.Lgl
+op_type op.Eq t u = Some ty.Lgl
+op_type op.Ne t u = Some ty.Lgl
+op_type op.Lt t u = Some ty.Lgl
+op_type op.Le t u = Some ty.Lgl
+op_type op.Gt t u = Some ty.Lgl
+op_type op.Ge t u = Some ty.Lgl
 
 -- `-` takes logicals and integers and gives integers, `!` takes logicals, `is.na` takes any type
 abbrev pub unary_type : UnOp → ColType → Option ColType
@@ -77,7 +84,8 @@ unary_type un.IsNa _ = Some ty.Lgl
 abbrev pub number : Cell → Option ℤ
 number (is.Lgl b) = Some (if b then pos 1 else pos 0)
 number (is.Int n) = Some n
-number _ = None
+number (is.Text t) = None
+number is.Na = None
 
 -- a whole number as a cell, from -(2^63 - 1) to 2^63 - 1
 abbrev pub whole : ℤ → Outcome
@@ -139,8 +147,9 @@ order_of compare _ _ = None
 -- The order of two cells in a common type, none where one is NA. Texts are ordered by their bytes,
 -- numbers by value.
 abbrev pub compared : ColType → Cell → Cell → Option Ordering
+compared ty.Lgl a b = order_of int_cmp (number a) (number b)
+compared ty.Int a b = order_of int_cmp (number a) (number b)
 compared ty.Chr a b = order_of (slice_cmp nat_cmp) (text a) (text b)
-compared _ a b = order_of int_cmp (number a) (number b)
 
 -- whether the order passes a test; NA where there is none
 abbrev pub tested : (Ordering → Bool) → Option Ordering → Outcome

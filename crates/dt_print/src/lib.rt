@@ -27,6 +27,3 @@ mod widths;
 pub use messages::{fault_line, warn_lines};
 pub use table::{frame_text, table_text};
 pub use vector::{null_text, vector_text};
-
-#[cfg(test)]
-mod tests;

@@ -13,7 +13,7 @@ use Rattle.dt_table.proofs.Plain.{plain_names, plain_rows, vectors_count}
 use Rattle.dt_table.specs.Plain.{plain}
 use Rattle.dt_table.specs.Table.{TableSeen, IsTable}
 use Rattle.expr_eval.specs.Scope.{columns_of}
-use Rattle.expr_model.specs.Rows.{Places, all_rows}
+use Rattle.row_model.specs.Rows.{Places, all_rows}
 use Rattle.expr_model.specs.Surroundings.{Vars, columns_at, columns_in, in_rows, vectors_from}
 use Rattle.na_vector.specs.Column.{Seen}
 use Rattle.na_vector.specs.Frame.{FrameSeen, HasLength, vectors_of}

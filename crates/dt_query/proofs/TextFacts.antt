@@ -5,9 +5,9 @@ use Rattle.std.proofs.lemmas.List.{append_assoc, length-append, map-append}
 use Rattle.std.proofs.lemmas.List.Elements.{All-get_or}
 use Rattle.std.proofs.lemmas.List.Quantifiers.{position-Some}
 use Rattle.std.proofs.lemmas.Slice.Eq.{bytes_eq-Decides}
-use Rattle.arg_bind.specs.Answers.{AnswersAs}
-use Rattle.arg_bind.specs.declared.fail.EvalFail.{EvalFail}
-use Rattle.arg_bind.specs.declared.fail.EvalFail.TheVariants as eval
+use Rattle.eval_fail.specs.Answers.{AnswersAs}
+use Rattle.eval_fail.specs.declared.fail.EvalFail.{EvalFail}
+use Rattle.eval_fail.specs.declared.fail.EvalFail.TheVariants as eval
 use Rattle.dt_base.specs.declared.fault.Fault.{Fault}
 use Rattle.dt_model.specs.Table.{place_of}
 use Rattle.dt_model.specs.Vector.{Vector}
@@ -23,7 +23,7 @@ use Rattle.session_model.specs.Expression.{each}
 use Rattle.session_model.specs.Form.{text_in}
 use Rattle.session_model.specs.Meaning.{call_answer, call_vector, one_text as first_text, texts_from, texts_in, texts_or, with_text}
 use Rattle.session_model.specs.Meanings.{Answer, ArgMeaning}
-use Rattle.vec_funcs.specs.Valued.{vector_of}
+use Rattle.valued.specs.Valued.{vector_of}
 
 -- ---- Texts of arguments
 

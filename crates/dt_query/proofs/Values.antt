@@ -1,8 +1,8 @@
 -- The values of a list, and the columns that they become.
 use Rattle.std.proofs.Common.{◌≡◌, ◌<◌, ℕ, List, [], ◌∷◌, length, map, Result, Ok, Err, refl, sym, ap, subst, ◌∙◌, arith}
 use Rattle.std.proofs.lemmas.Bool.Decides.{nat_tests}
-use Rattle.arg_bind.specs.Answers.{AnswersAs}
-use Rattle.arg_bind.specs.declared.fail.EvalFail.{EvalFail}
+use Rattle.eval_fail.specs.Answers.{AnswersAs}
+use Rattle.eval_fail.specs.declared.fail.EvalFail.{EvalFail}
 use Rattle.dt_base.specs.declared.fault.Code.TheVariants.{E19}
 use Rattle.dt_base.specs.Fault.{fault}
 use Rattle.dt_model.specs.Vector.{Vector}
@@ -10,15 +10,15 @@ use Rattle.dt_table.specs.Plain.{plain}
 use Rattle.dt_table.specs.Table.{TableSeen}
 use Rattle.dt_tree.specs.declared.tree.Arg.{Arg}
 use Rattle.expr_eval.proofs.Vectors.{same_vectors}
-use Rattle.expr_model.specs.Lengths.{common_length, repeated}
+use Rattle.row_model.specs.Lengths.{common_length, repeated}
 use Rattle.expr_model.specs.Surroundings.{Env}
 use Rattle.na_vector.specs.Frame.{FrameSeen, rows_with, vectors_of}
 use Rattle.session_model.specs.Columns.{columns_answer, list_answer, list_table}
 use Rattle.session_model.specs.Expression as session
 use Rattle.session_model.specs.Meaning.{arg_meaning}
 use Rattle.session_model.specs.Value.{new_table}
-use Rattle.vec_funcs.specs.Valued.{valued_of, vector_in}
-use Rattle.vec_funcs.specs.declared.valued.Valued.{Valued}
+use Rattle.valued.specs.Valued.{valued_of, vector_in}
+use Rattle.valued.specs.declared.column.Valued.{Valued}
 use Rattle.vector_model.specs.Then.{then_do}
 
 -- each brought to one length

@@ -3,7 +3,7 @@ use dt_table::Table;
 use na_vector::Column;
 
 /// What a bracket gives.
-#[derive(Debug, Drop)]
+#[derive(Drop)]
 pub enum Outcome {
     /// The table before the bracket itself.
     Same,
@@ -13,14 +13,14 @@ pub enum Outcome {
 }
 
 /// What a bracket gives, and its warnings.
-#[derive(Debug, Drop)]
+#[derive(Drop)]
 pub struct Answer {
     pub outcome: Outcome,
     pub warns: Warns,
 }
 
 /// The two options of a session.
-#[derive(Clone, Copy, Debug, PartialEq, Eq)]
+#[derive(Clone, Copy)]
 pub struct Options {
     /// `datatable.auto.index`: a query may leave an index.
     pub auto_index: bool,

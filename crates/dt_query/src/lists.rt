@@ -1,31 +1,31 @@
 ghost use Rattle.std.specs.Prelude.{◌≡◌, ◌<◌, ◌≤◌, ◌+◌, ◌⊎◌, ◌++◌, ◌∷◌, [], IfOk, IfErr, OnOk, All, length, map};
-ghost use Rattle.arg_bind.specs.Answers.{AnswersAs, IsOwn};
+ghost use Rattle.eval_fail.specs.Answers.{AnswersAs, IsOwn};
 ghost use Rattle.dt_base.specs.declared.limits.TheConstants.{MAX_ROWS};
 ghost use Rattle.dt_query.specs.Answers.{plain_answer};
 ghost use Rattle.dt_table.specs.Plain.{plain};
 ghost use Rattle.dt_table.specs.Table.{IsFilled};
 ghost use Rattle.expr_eval.specs.Scope.{env_of, IsScope};
-ghost use Rattle.expr_model.specs.Lengths.{repeated};
+ghost use Rattle.row_model.specs.Lengths.{repeated};
 ghost use Rattle.na_vector.specs.Frame.{rows_with, vectors_of};
 ghost use Rattle.session_model.specs.Columns.{arguments_answer, columns_answer, list_answer, list_table, values_answer};
 ghost use Rattle.session_model.specs.Expression.{checked_value, each_argument, vector_in};
 ghost use Rattle.session_model.specs.Meaning.{arg_meaning};
-ghost use Rattle.vec_funcs.specs.Valued.{valued_of};
+ghost use Rattle.valued.specs.Valued.{valued_of};
 
 use crate::names::item_names;
 use crate::rows::checked_value;
 use crate::tables::new_table;
 use crate::{Answer, Outcome};
-use arg_bind::{EvalFail, stop};
 use dt_base::{Code, ColName, Steps};
 use dt_table::Table;
 use dt_tree::Arg;
+use eval_fail::{EvalFail, stop};
 use expr_eval::{Scope, Vars, kinds_of_each, values_of_each, warns_of_values};
 use na_vector::{Column, Frame};
 use row_choice::{common_length, repeated};
 use std::alloc::{AllocError, Global};
 use std::sync::ledger::Ledger;
-use vec_funcs::Valued;
+use valued::Valued;
 
 /// Puts one more at the end.
 pub fn add<T: Drop>(list: &mut Vec<T>, x: T) -> Result<(), AllocError>

@@ -1,5 +1,5 @@
 ghost use Rattle.std.specs.Prelude.{◌≡◌, None, Some, IfOk, IfErr, length, map};
-ghost use Rattle.arg_bind.specs.Answers.{AnswersAs, IsOwn};
+ghost use Rattle.eval_fail.specs.Answers.{AnswersAs, IsOwn};
 ghost use Rattle.dt_base.specs.Warns.{both_warns, no_warns};
 ghost use Rattle.dt_model.specs.Vector.{gathered};
 ghost use Rattle.dt_query.specs.Answers.{plain_answer};
@@ -17,10 +17,10 @@ use crate::scopes::{chosen_scope, whole_scope};
 use crate::second::answer_of;
 use crate::tables::new_table;
 use crate::{Answer, Options, Outcome};
-use arg_bind::{EvalFail, stop_unbuilt};
 use dt_base::{Steps, Warns};
 use dt_table::Table;
 use dt_tree::{Bracket, Expr, Second};
+use eval_fail::{EvalFail, stop_unbuilt};
 use expr_eval::Vars;
 use na_vector::Frame;
 use row_choice::all_rows;

@@ -1,5 +1,5 @@
 ghost use Rattle.std.specs.Prelude.{◌≡◌, ◌≤◌, IfOk, IfErr, All, length};
-ghost use Rattle.arg_bind.specs.Answers.{AnswersAs, IsOwn};
+ghost use Rattle.eval_fail.specs.Answers.{AnswersAs, IsOwn};
 ghost use Rattle.dt_model.specs.Vector.{IsWithin};
 ghost use Rattle.dt_query.specs.Chosen.{chosen_of, AreRows};
 ghost use Rattle.dt_table.specs.Plain.{plain};
@@ -9,26 +9,27 @@ ghost use Rattle.na_vector.specs.Frame.{rows_with};
 ghost use Rattle.session_model.specs.Expression.{checked_value};
 ghost use Rattle.session_model.specs.Meaning.{meaning};
 ghost use Rattle.session_model.specs.Query.{i_variable, i_name, i_not_variable, i_not_name, i_by_form, i_value, of_columns, rows_by, rows_of_i};
-ghost use Rattle.vec_funcs.specs.Valued.{valued_of};
+ghost use Rattle.valued.specs.Valued.{valued_of};
 ghost use Rattle.vector_model.specs.Then.{then_do};
 
 use crate::forms::negated_name;
 use crate::scopes::whole_scope;
-use arg_bind::{EvalFail, bare_name, stop, stop_unbuilt};
+use arg_bind::bare_name;
 use dt_base::{Code, Steps, Warns};
 use dt_table::Table;
 use dt_tree::Expr;
+use eval_fail::{EvalFail, stop, stop_unbuilt};
 use expr_eval::{Scope, Vars, check, eval};
-use func_table::special_named;
+use func_table::{Special, special_named};
 use na_vector::{Column, Frame};
 use row_choice::{all_rows, chosen_rows};
 use std::alloc::Global;
 use std::sync::ledger::Ledger;
-use vec_funcs::Valued;
+use valued::Valued;
 
 /// The rows that an i chooses, each by its place in the table, or none for a row of NA; and the
 /// warnings of i.
-#[derive(Debug, Drop)]
+#[derive(Drop)]
 pub struct Chosen {
     pub positions: Vec<Option<u32>>,
     pub warns: Warns,
@@ -121,7 +122,8 @@ fn variable_rows<V: Vars, L: Ledger>(
     }
 }
 
-/// The rows that a bare name chooses: a special name by its value, any other as the script's.
+/// The rows that a bare name chooses: `.N` by its value, any other as the script's, of which no
+/// special name is one.
 fn name_rows<V: Vars, L: Ledger>(
     alloc: Global,
     e: &Expr,
@@ -136,7 +138,8 @@ fn name_rows<V: Vars, L: Ledger>(
     ensures own { IfErr result IsOwn }
 {
     match special_named(name) {
-        Some(_) => valued_rows(alloc, e, x, s, steps),
+        Some(Special::Count) => valued_rows(alloc, e, x, s, steps),
+        Some(Special::Places | Special::Group | Special::Rows) => Err(stop(alloc, Code::E02, name)),
         None => variable_rows(alloc, name, x, s.vars, steps),
     }
 }
@@ -208,8 +211,8 @@ fn rows_in<V: Vars, L: Ledger>(
 
 /// The rows that i chooses of a table.
 ///
-/// A bare name that is no special one is looked up among the script's names alone: E02 where it is
-/// unbound. The name of a table, and `!` before one, is not served. Anything else has its type first,
+/// A bare name but `.N` is looked up among the script's names alone: E02 where it is unbound, or is
+/// another special name. The name of a table, and `!` before one, is not served. Anything else has its type first,
 /// over all rows of the table, and then its value. Then come the faults of choosing rows by it: E05
 /// for the length of a logical, E13 for mixed signs. dtq's own rule, docs/LANGUAGE.md, section
 /// "Brackets".

@@ -4,7 +4,7 @@ ghost use Rattle.dt_query.specs.Scopes.{IsOverRows};
 ghost use Rattle.dt_table.specs.Plain.{plain};
 ghost use Rattle.dt_table.specs.Table.{IsFilled};
 ghost use Rattle.expr_eval.specs.Scope.{columns_of, env_of, IsScope};
-ghost use Rattle.expr_model.specs.Rows.{all_rows};
+ghost use Rattle.row_model.specs.Rows.{all_rows};
 ghost use Rattle.expr_model.specs.Surroundings.{columns_at, columns_in, in_rows};
 ghost use Rattle.na_vector.specs.Frame.{vectors_of};
 ghost use Rattle.session_model.specs.Query.{whole_rows};

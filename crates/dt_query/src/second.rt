@@ -1,5 +1,5 @@
 ghost use Rattle.std.specs.Prelude.{◌≡◌, ◌∷◌, [], IfOk, IfErr, map};
-ghost use Rattle.arg_bind.specs.Answers.{AnswersAs, IsOwn};
+ghost use Rattle.eval_fail.specs.Answers.{AnswersAs, IsOwn};
 ghost use Rattle.dt_query.specs.Answers.{plain_answer};
 ghost use Rattle.dt_query.specs.Scopes.{IsOverRows};
 ghost use Rattle.dt_query.specs.Texts.{call_texts, answer_by};
@@ -11,9 +11,10 @@ ghost use Rattle.session_model.specs.Meaning.{meaning, arg_meaning, one_text, te
 use crate::lists::{add, list_answer};
 use crate::texts::{call_texts, text_columns};
 use crate::{Answer, Outcome};
-use arg_bind::{EvalFail, text_literal};
+use arg_bind::text_literal;
 use dt_base::{ColName, Steps, Text};
 use dt_tree::{Arg, Expr};
+use eval_fail::EvalFail;
 use expr_eval::{Scope, Vars, check, eval};
 use func_table::is_list;
 use std::alloc::{AllocError, Global};

@@ -1,5 +1,5 @@
 ghost use Rattle.std.specs.Prelude.{◌≡◌, IfOk, IfErr, All, length};
-ghost use Rattle.arg_bind.specs.Answers.{AnswersAs, IsStop, IsOwn};
+ghost use Rattle.eval_fail.specs.Answers.{AnswersAs, IsStop, IsOwn};
 ghost use Rattle.dt_base.specs.Fault.{fault};
 ghost use Rattle.dt_base.specs.declared.fault.Code.TheVariants.{E12};
 ghost use Rattle.dt_model.specs.Table.{name_at};
@@ -9,10 +9,10 @@ ghost use Rattle.dt_table.specs.Table.{IsFilled};
 ghost use Rattle.na_vector.specs.Frame.{vectors_of};
 ghost use Rattle.session_model.specs.Value.{new_table};
 
-use arg_bind::{EvalFail, stop, stop_number};
 use dt_base::limits::MAX_COLUMNS;
 use dt_base::{Code, ColName};
 use dt_table::{MakeFail, Table};
+use eval_fail::{EvalFail, stop, stop_number};
 use na_vector::Frame;
 use std::alloc::{AllocError, Global};
 

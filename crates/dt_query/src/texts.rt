@@ -1,6 +1,6 @@
 ghost use Rattle.std.specs.Prelude.{◌≡◌, ◌<◌, None, Some, IfOk, IfErr, IfSome, MatchOption, All, length, map};
 ghost use Rattle.std.specs.Option.{option_copied};
-ghost use Rattle.arg_bind.specs.Answers.{AnswersAs, IsOwn};
+ghost use Rattle.eval_fail.specs.Answers.{AnswersAs, IsOwn};
 ghost use Rattle.dt_query.specs.Answers.{plain_answer};
 ghost use Rattle.dt_query.specs.Scopes.{IsOverRows};
 ghost use Rattle.dt_query.specs.Texts.{bare_text, call_texts};
@@ -12,16 +12,17 @@ ghost use Rattle.na_vector.specs.Frame.{vectors_of};
 ghost use Rattle.session_model.specs.Columns.{known_column, known_columns, text_columns};
 ghost use Rattle.session_model.specs.Meaning.{arg_meaning, texts_from, texts_in};
 ghost use Rattle.session_model.specs.Value.{new_table};
-ghost use Rattle.vec_funcs.specs.Valued.{vector_of};
+ghost use Rattle.valued.specs.Valued.{vector_of};
 ghost use Rattle.vector_model.specs.Then.{then_do};
 
 use crate::names::column_named;
 use crate::tables::new_table;
 use crate::{Answer, Outcome};
-use arg_bind::{EvalFail, stop, text_literal};
+use arg_bind::text_literal;
 use dt_base::{Code, ColName, Steps, Text, Warns};
 use dt_table::Table;
 use dt_tree::Arg;
+use eval_fail::{EvalFail, stop};
 use expr_eval::{Scope, Vars};
 use na_vector::{Column, Frame};
 use std::alloc::{AllocError, Global};

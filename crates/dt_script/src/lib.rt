@@ -14,7 +14,7 @@
 //!
 //! It promises that a script is given exactly where the bytes spell it, and the fault exactly where
 //! it is the first. Time is linear in the bytes and the stack grows with the nesting alone, which
-//! no clause says and `script_table` tries.
+//! no clause says and `reading_cases` tries.
 #![tactic(auto)]
 
 mod brackets;

@@ -14,7 +14,7 @@
 --   sent e lines              an effect's text and file, and these lines
 --   EndsAs bytes s w now v r  how the script of these bytes ended early
 use Rattle.std.specs.Prelude.{◌≡◌, ◌⊎◌, ℕ, List, Option, IsNone, false, Some, Ok, Err, option_map}
-use Rattle.arg_bind.specs.Answers.{is_of_file}
+use Rattle.eval_fail.specs.Answers.{is_of_file}
 use Rattle.dt_base.specs.declared.fault.Fault.{Fault}
 use Rattle.dt_model.specs.State.{State}
 use Rattle.dt_tree.specs.declared.tree.Stmt.{Stmt}

@@ -4,7 +4,7 @@ use std::alloc::AllocError;
 use stmt_value::ValueFail;
 
 /// Why a statement was refused.
-#[derive(Debug, Drop)]
+#[derive(Drop)]
 pub enum ExecFail {
     /// Its first fault.
     Stop(Fault),
@@ -58,7 +58,7 @@ impl From<AllocError> for ExecFail {
 /// Why a script ended early: the line of the statement that was refused, how many statements were
 /// done before it, and why it was refused. Where the script itself was refused, no statement was
 /// done, and the line is that of the fault, or 0.
-#[derive(Debug, Drop)]
+#[derive(Drop)]
 pub struct RunFail {
     pub line: u32,
     pub done: u64,

@@ -26,8 +26,6 @@ mod puts;
 mod refusal;
 mod run;
 mod session;
-#[cfg(test)]
-mod tests;
 
 pub use dt_query::Options;
 pub use fail::{ExecFail, RunFail};

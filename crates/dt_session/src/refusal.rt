@@ -1,10 +1,10 @@
 //! The one line that tells a fault, and how the refusal of a script's reading is told.
 ghost use Rattle.std.specs.Prelude.{◌≡◌, ◌≢◌, ◌≤◌, IfOk, OnOk, OnErr, false, IsErrOf, alloc_error};
-ghost use Rattle.arg_bind.specs.Answers.{is_of_file};
+ghost use Rattle.eval_fail.specs.Answers.{is_of_file};
 ghost use Rattle.dt_world.specs.Causes.{Rose};
 ghost use Rattle.dt_world.specs.Told.{appended, AppendedPart};
 ghost use Rattle.run_model.specs.Messages.{printed_fault};
-ghost use Rattle.session_model.specs.Value.{number_fault};
+ghost use Rattle.vector_model.specs.Faults.{number_fault};
 ghost use Rattle.dt_session.specs.Answers.{IsOwn, IsStopped};
 ghost use Rattle.dt_session.specs.Refusals.{IsRefusalOf, RefusalEnd};
 

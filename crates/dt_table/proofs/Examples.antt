@@ -62,7 +62,7 @@ duplicate : refusal (codes "a" ∷ codes "a" ∷ []) two ≡ Some (Duplicate 1)
 duplicate = refl
 
 abbrev ab : TableSeen
-ab = made (codes "a" ∷ codes "b" ∷ []) two
+ab = made (codes "a" ∷ codes "b" ∷ []) two 0
 
 two_rows : (plain ab).rows ≡ (Int (pos 1) ∷ Lgl true ∷ []) ∷ (Na ∷ Lgl false ∷ []) ∷ []
 two_rows = refl

@@ -11,14 +11,14 @@ use Rattle.std.proofs.lemmas.Map.Keys.{IsDistinct-from_apart, apart_from_distinc
 use Rattle.dt_base.specs.declared.cell.Cell.{Cell}
 use Rattle.dt_base.specs.declared.cell.Cell.TheVariants.{Na}
 use Rattle.dt_base.specs.declared.cell.ColType.{ColType}
-use Rattle.dt_base.specs.declared.cell.ColType.TheVariants as ty
 use Rattle.dt_base.specs.Cell.{IsOfType}
 use Rattle.dt_model.specs.Table.{heads_of, name_at, names_at, row_at, rows_of}
 use Rattle.dt_model.specs.Vector.{Vector, IsVector, cell_at}
 use Rattle.na_vector.specs.Column.{Seen, IsColumn}
 use Rattle.na_vector.specs.Frame.{vectors_of}
+use Rattle.dt_table.proofs.PlainKeys.{plain_key_true}
 use Rattle.dt_table.specs.Plain.{plain}
-use Rattle.dt_table.specs.PlainTables.{AreColumns, IsPlainTable, IsRow, names_in}
+use Rattle.dt_table.specs.PlainTables.{AreColumns, IsPlainTable, IsRow}
 use Rattle.dt_table.specs.Table.{IndexSeen, IsColumnList, IsIndex, IsNames, IsTable, TableSeen}
 
 -- ---- rows
@@ -84,9 +84,9 @@ columns_at names cols ns cs = record {
       (names_apart names a b ns.distinct (All-get_or (λ c. c < length names) cols i 0 before cs.in_range) (All-get_or (λ c. c < length names) cols j 0 long cs.in_range) (apart_from_distinct (λ (x y : ℕ). x == y) cols i j 0 cs.distinct lt long)));
 }
 
-indices_at : (names : List (List ℕ)) (xs : List IndexSeen) → IsNames names → All (IsIndex (length names)) xs → All (AreColumns names) (map (λ x. names_at names x.cols) xs)
-indices_at names xs ns h =
-    All-map (AreColumns names) (λ (x : IndexSeen). names_at names x.cols) xs (All-weaker (IsIndex (length names)) (λ x. AreColumns names (names_at names x.cols)) (λ x index. columns_at names x.cols ns index.cols) xs h)
+indices_at : (names : List (List ℕ)) (n : ℕ) (vs : List Vector) (xs : List IndexSeen) → IsNames names → All (IsIndex (length names) n vs) xs → All (AreColumns names) (map (λ x. names_at names x.cols) xs)
+indices_at names n vs xs ns h =
+    All-map (AreColumns names) (λ (x : IndexSeen). names_at names x.cols) xs (All-weaker (IsIndex (length names) n vs) (λ x. AreColumns names (names_at names x.cols)) (λ x index. columns_at names x.cols ns index.cols) xs h)
 
 -- ---- the table
 
@@ -109,5 +109,6 @@ plain_table t h =
       cells = rw (rows, columns) h.cells;
       width = rw (columns, ← h.named) h.width;
       key = subst (λ ns. AreColumns ns (names_at t.names t.key)) (sym names) (columns_at t.names t.key h.names h.key);
-      indices = subst (λ ns. All (AreColumns ns) (map (λ x. names_at t.names x.cols) t.indices)) (sym names) (indices_at t.names t.indices h.names h.indices);
+      true_key = plain_key_true t h;
+      indices = subst (λ ns. All (AreColumns ns) (map (λ x. names_at t.names x.cols) t.indices)) (sym names) (indices_at t.names t.frame.rows vs t.indices h.names h.indices);
     }

@@ -1,8 +1,10 @@
-ghost use Rattle.std.specs.Prelude.{◌≡◌, IfOk};
+ghost use Rattle.std.specs.Prelude.{◌≡◌, ◌++◌, ◌∷◌, [], IfOk, OnOk};
+ghost use Rattle.dt_table.specs.Change.{part_seen, parts_seen};
 
-use crate::Index;
-use dt_base::ColName;
+use crate::{Index, Part};
+use dt_base::{Cell, ColName, Steps};
 use std::alloc::{AllocError, Global};
+use std::sync::ledger::Ledger;
 
 /// The same names once more.
 pub fn copied_names(alloc: Global, names: &[ColName]) -> Result<Vec<ColName>, AllocError>
@@ -33,4 +35,62 @@ fn copied_index(alloc: Global, index: &Index) -> Result<Index, AllocError>
         cols: Vec::from_slice(alloc, &index.cols)?,
         order: Vec::from_slice(alloc, &index.order)?,
     })
+}
+
+/// The same cells once more.
+fn copied_cells(alloc: Global, cells: &[Cell]) -> Result<Vec<Cell>, AllocError>
+    ensures { IfOk result (λ v. v.items ≡ cells.now) }
+{
+    let mut out = Vec::with_capacity(alloc, cells.len())?;
+    for cell in cells {
+        out.push(cell.as_ref().to_cell(alloc)?)?;
+    }
+    Ok(out)
+}
+
+/// The same part once more.
+fn copied_part<L: Ledger>(
+    alloc: Global,
+    part: &Part,
+    steps: &mut Steps<L>,
+) -> Result<Part, AllocError>
+    ensures { IfOk result (λ p. part_seen p ≡ part_seen part.now) }
+{
+    Ok(match part {
+        Part::Replace { col, with } => Part::Replace {
+            col: *col,
+            with: with.copy(alloc, steps)?,
+        },
+        Part::Write { col, at, cells } => Part::Write {
+            col: *col,
+            at: Vec::from_slice(alloc, at)?,
+            cells: copied_cells(alloc, cells)?,
+        },
+        Part::Add { name, with } => Part::Add {
+            name: name.copy()?,
+            with: with.copy(alloc, steps)?,
+        },
+        Part::Delete { col } => Part::Delete { col: *col },
+    })
+}
+
+fn add(parts: &mut Vec<Part>, part: Part) -> Result<(), AllocError>
+    ensures { OnOk result (parts.new.items ≡ parts.old.items ++ part ∷ []) }
+{
+    Ok(parts.push(part)?)
+}
+
+/// The same parts once more.
+pub fn copied_parts<L: Ledger>(
+    alloc: Global,
+    parts: &[Part],
+    steps: &mut Steps<L>,
+) -> Result<Vec<Part>, AllocError>
+    ensures { IfOk result (λ v. parts_seen v.items ≡ parts_seen parts.now) }
+{
+    let mut out = Vec::new(alloc);
+    for part in parts {
+        add(&mut out, copied_part(alloc, part, steps)?)?;
+    }
+    Ok(out)
 }

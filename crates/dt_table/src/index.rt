@@ -2,7 +2,7 @@ use std::marker::Model;
 
 /// An index: one column or more, counted from 0, and all rows, counted from 0, in the order of
 /// these columns. Contracts see the two lists.
-#[derive(Debug, Drop)]
+#[derive(Drop)]
 pub struct Index {
     pub cols: Vec<usize>,
     pub order: Vec<u32>,

@@ -7,7 +7,7 @@ use std::alloc::{AllocError, Global};
 use std::collections::HashSet;
 
 /// Why no table is made of some names and a frame, in the order in which it is looked at.
-#[derive(Debug, Drop)]
+#[derive(Drop)]
 pub enum MakeFail {
     /// The name of this column stands before it too. Columns are counted from 0.
     Duplicate { col: usize },

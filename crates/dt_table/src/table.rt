@@ -2,9 +2,12 @@ ghost use Rattle.std.specs.Prelude.{◌≡◌, ◌+◌, ◌*◌, ◌<◌, ◌≤
 ghost use Rattle.dt_model.specs.Table.{place_of};
 ghost use Rattle.dt_table.specs.Make.{refusal, IsCause};
 
-use crate::copies::{copied_indices, copied_names};
+use crate::copies::{copied_indices, copied_names, copied_parts};
 use crate::make::{is_within_cells, repeated_name};
-use crate::{Index, MakeFail};
+use crate::orders::{cut_indices, cut_key};
+use crate::parts::change_columns;
+use crate::room::{count_added, rename_columns, reserve_parts};
+use crate::{Change, Index, MakeFail};
 use dt_base::limits::{MAX_COLUMNS, MAX_ROWS, SPARE_COLUMNS};
 use dt_base::{ColName, Steps};
 use na_vector::Frame;
@@ -15,8 +18,10 @@ use std::sync::ledger::Ledger;
 /// A table: named columns of one length, a key, indices, and a number of column slots.
 ///
 /// Its names are distinct and none is empty; it has at most 16,777,216 rows and 67,108,864 cells,
-/// and no more columns than slots. Contracts see all its parts, and `plain` reads them row by row.
-#[derive(Debug, Drop)]
+/// and no more columns than slots. Over the columns of its key no row stands above the next one, and
+/// each index has the rows in the order of its columns. Contracts see all its parts, and `plain`
+/// reads them row by row.
+#[derive(Drop)]
 pub struct Table {
     names: Vec<ColName>,
     frame: Frame,
@@ -30,13 +35,17 @@ impl Model for Table {
 
     ghost Value = { TableSeen };
 
-    ghost view = { λ t. record { names = t.names.items; frame = t.frame; key = t.key.items; indices = t.indices.items; slots = t.slots } };
+    ghost use Rattle.std.specs.Prelude.{◌-◌, vec_len, vec_capacity};
 
-    ghost invariant = { λ t. IsTable (record { names = t.names.items; frame = t.frame; key = t.key.items; indices = t.indices.items; slots = t.slots }) };
+    ghost view = { λ t. record { names = t.names.items; frame = t.frame; key = t.key.items; indices = t.indices.items; slots = t.slots; spare = vec_capacity t.names - vec_len t.names } };
+
+    ghost invariant = { λ t. IsTable (record { names = t.names.items; frame = t.frame; key = t.key.items; indices = t.indices.items; slots = t.slots; spare = vec_capacity t.names - vec_len t.names }) };
 }
 
 impl Table {
-    ghost use Rattle.dt_table.specs.Table.{IsTable, IsFilled, IsCopy, made};
+    ghost use Rattle.dt_table.specs.Table.{HasSame, IsColumnList, IsCopy, IsFilled, IsNames, IsTable, made, renamed};
+    ghost use Rattle.dt_table.specs.Change.{FitsTable, IsApplied, RoomFor, written_cells};
+    ghost use Rattle.dt_table.specs.Plain.{plain, plain_changed};
 
     /// The table of these names and this frame, without key and indices, with 1,024 slots more than
     /// columns. There are as many names as columns, and no name is empty.
@@ -47,7 +56,7 @@ impl Table {
     pub fn make(alloc: Global, names: Vec<ColName>, frame: Frame) -> Result<Table, MakeFail>
         requires count { length names.items ≡ length frame.columns }
         requires filled { All IsFilled names.items }
-        ensures table { IfOk result (λ t. t ≡ made names.items frame) }
+        ensures table { IfOk result (λ t. t ≡ made names.items frame t.spare) }
         ensures passed { IfOk result (λ t. refusal names.items frame ≡ None) }
         ensures refused { IfErr result (λ e. IsCause e (refusal names.items frame)) }
     {
@@ -157,5 +166,85 @@ impl Table {
             indices,
             slots: own_slots,
         })
+    }
+
+    /// Makes a change, which fits the table and for which there is room. It cuts the key before the
+    /// first column that is changed or goes, and drops each index that has such a column. It takes no
+    /// memory, and touches each cell that is written.
+    pub fn apply<L: Ledger>(&mut self, ch: Change, steps: &mut Steps<L>)
+        requires fits { FitsTable self.old ch }
+        requires room { RoomFor self.old ch }
+        ensures applied { IsApplied self.old ch self.new }
+        ensures plain { plain self.new ≡ plain_changed self.old ch }
+        ensures touches { steps.new ≡ steps.old + written_cells ch.parts }
+    {
+        let Change { parts } = ch;
+        cut_key(&mut self.key, &parts);
+        cut_indices(&mut self.indices, &parts);
+        change_columns(&mut self.names, &mut self.frame, parts, steps);
+        let _ = self.frame.width();
+    }
+
+    /// Makes the room that `apply` of this change needs. Whatever its answer, spare numbers may have
+    /// risen, and all else is as it was.
+    pub fn reserve_change(&mut self, ch: &Change) -> Result<(), AllocError>
+        requires fits { FitsTable self.old ch.now }
+        ensures room { OnOk result (RoomFor self.new ch.now) }
+        ensures same { HasSame self.old self.new }
+    {
+        let added = count_added(&ch.parts);
+        self.names.reserve(added)?;
+        reserve_parts(&mut self.frame, added, &ch.parts)
+    }
+
+    /// Gives columns other names, in the order of both lists. The columns are distinct and in range,
+    /// there are as many names, and all names are distinct then and none is empty. It takes no memory.
+    pub fn rename(&mut self, cols: &[usize], names: Vec<ColName>)
+        requires cols { IsColumnList (length self.old.names) cols.now }
+        requires each { length cols.now ≡ length names.items }
+        requires names { IsNames (renamed cols.now names.items self.old.names) }
+        ensures { self.new ≡ record self.old { names = renamed cols.now names.items self.old.names } }
+    {
+        let mut names = names;
+        rename_columns(&mut self.names, cols, &mut names);
+    }
+
+    /// The same table once more, its slots included, in memory of its own.
+    fn same<L: Ledger>(&self, alloc: Global, steps: &mut Steps<L>) -> Result<Table, AllocError>
+        ensures { IfOk result (HasSame self.now) }
+    {
+        let names = copied_names(alloc, &self.names)?;
+        let own_key = Vec::from_slice(alloc, &self.key)?;
+        let indices = copied_indices(alloc, &self.indices)?;
+        let frame = self.frame.copy(alloc, steps)?;
+        let _ = frame.width();
+        Ok(Table {
+            names,
+            frame,
+            key: own_key,
+            indices,
+            slots: self.slots,
+        })
+    }
+
+    /// The new table that `apply` of this change, which fits, would leave, its slots included. This
+    /// table stays as it is.
+    pub fn preview<L: Ledger>(
+        &self,
+        alloc: Global,
+        ch: &Change,
+        steps: &mut Steps<L>,
+    ) -> Result<Table, AllocError>
+        requires fits { FitsTable self.now ch.now }
+        ensures applied { IfOk result (IsApplied self.now ch.now) }
+        ensures plain { IfOk result (λ u. plain u ≡ plain_changed self.now ch.now) }
+    {
+        let _ = self.names();
+        let mut table = self.same(alloc, steps)?;
+        let parts = copied_parts(alloc, &ch.parts, steps)?;
+        let change = Change { parts };
+        table.reserve_change(&change)?;
+        table.apply(change, steps);
+        Ok(table)
     }
 }

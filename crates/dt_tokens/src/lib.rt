@@ -16,8 +16,6 @@ mod number;
 mod place;
 mod reading;
 mod sign;
-#[cfg(test)]
-mod tests;
 mod text;
 mod utf8;
 mod word;

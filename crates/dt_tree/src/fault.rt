@@ -1,7 +1,7 @@
 use crate::Place;
 
 /// Why a script has no tokens. Each but the first has the place of the byte at fault.
-#[derive(Clone, Copy, Debug, PartialEq, Eq)]
+#[derive(Clone, Copy)]
 pub enum ScriptFault {
     NotUtf8,
     /// A bad character, escape or form of a number, or a text without an end.

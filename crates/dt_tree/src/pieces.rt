@@ -1,7 +1,7 @@
 use crate::Token;
 
 /// A class of bytes: what a piece of a script goes on with.
-#[derive(Clone, Copy, Debug, PartialEq, Eq)]
+#[derive(Clone, Copy)]
 pub enum Class {
     /// A letter, a digit, `.` or `_`: what a name goes on with.
     Name,
@@ -15,7 +15,7 @@ pub enum Class {
 }
 
 /// What begins with a byte.
-#[derive(Clone, Copy, Debug, PartialEq, Eq)]
+#[derive(Clone, Copy)]
 pub enum Start {
     /// A name or a literal.
     Word,
@@ -32,7 +32,7 @@ pub enum Start {
 }
 
 /// A piece of a script. Layout is blanks, or a comment without its line feed.
-#[derive(Debug, Drop)]
+#[derive(Drop)]
 pub enum Piece {
     Layout,
     /// A line feed, which may be a token or none.
@@ -41,7 +41,7 @@ pub enum Piece {
 }
 
 /// What a text begins with.
-#[derive(Debug, Drop)]
+#[derive(Drop)]
 pub enum First {
     /// A piece, and how many bytes it has.
     Found { piece: Piece, len: usize },
@@ -53,7 +53,7 @@ pub enum First {
 
 /// What stands before a piece: how many brackets are open, and whether the last token goes on
 /// over a line feed.
-#[derive(Clone, Copy, Debug)]
+#[derive(Clone, Copy)]
 pub struct Before {
     pub depth: u32,
     pub joins: bool,

@@ -1,7 +1,7 @@
 use dt_base::Text;
 
 /// A word that is a value.
-#[derive(Clone, Copy, Debug, PartialEq, Eq)]
+#[derive(Clone, Copy)]
 pub enum Literal {
     True,
     False,
@@ -16,7 +16,7 @@ pub enum Literal {
 }
 
 /// A symbol.
-#[derive(Clone, Copy, Debug, PartialEq, Eq)]
+#[derive(Clone, Copy)]
 pub enum Sign {
     /// `%in%`
     In,
@@ -74,7 +74,7 @@ pub enum Sign {
 
 /// One token of a script. A break is a line feed or `;`, with the least line that the next token
 /// may stand on.
-#[derive(Debug, Drop)]
+#[derive(Drop)]
 pub enum Token {
     Name(Text),
     Word(Literal),
@@ -85,14 +85,14 @@ pub enum Token {
 }
 
 /// A place in a script: the line, and the byte in its line. Both count from 1.
-#[derive(Clone, Copy, Debug, PartialEq, Eq)]
+#[derive(Clone, Copy, PartialEq, Eq)]
 pub struct Place {
     pub line: u32,
     pub byte: u32,
 }
 
 /// A token and the place of its first byte.
-#[derive(Debug, Drop)]
+#[derive(Drop)]
 pub struct Placed {
     pub at: Place,
     pub token: Token,

@@ -2,7 +2,7 @@ use dt_base::{Cell, ColType, Op, Text};
 use sqlite_items::{Boxed, Items};
 
 /// A two-sided operator.
-#[derive(Clone, Copy, Debug, PartialEq, Eq)]
+#[derive(Clone, Copy)]
 pub enum BinOp {
     Arith(Op),
     /// `%in%`
@@ -13,7 +13,7 @@ pub enum BinOp {
 
 /// An operator and its right side.
 #[cycle(tree)]
-#[derive(Debug, Drop)]
+#[derive(Drop)]
 pub struct Tail {
     pub op: BinOp,
     pub arg: Expr,
@@ -21,7 +21,7 @@ pub struct Tail {
 
 /// An argument, with its name where one is written.
 #[cycle(tree)]
-#[derive(Debug, Drop)]
+#[derive(Drop)]
 pub struct Arg {
     pub name: Option<Text>,
     pub value: Expr,
@@ -29,7 +29,7 @@ pub struct Arg {
 
 /// What stands as j: a value, an assignment, or the call of `:=`.
 #[cycle(tree)]
-#[derive(Debug, Drop)]
+#[derive(Drop)]
 pub enum Second {
     Value(Expr),
     Assign { left: Expr, right: Expr },
@@ -38,7 +38,7 @@ pub enum Second {
 
 /// A bracket: i, j and by where they stand, and the arguments with a name.
 #[cycle(tree)]
-#[derive(Debug, Drop)]
+#[derive(Drop)]
 pub struct Bracket {
     pub first: Option<Expr>,
     pub second: Option<Second>,
@@ -48,7 +48,7 @@ pub struct Bracket {
 
 /// An expression. A chain has operators of one level, left to right.
 #[cycle(tree)]
-#[derive(Debug, Drop)]
+#[derive(Drop)]
 pub enum Expr {
     Lit {
         cell: Cell,
@@ -87,7 +87,7 @@ pub enum Expr {
 }
 
 /// A statement: the line of its first token, the name that it assigns to, and its expression.
-#[derive(Debug, Drop)]
+#[derive(Drop)]
 pub struct Stmt {
     pub line: u32,
     pub target: Option<Text>,
@@ -95,7 +95,7 @@ pub struct Stmt {
 }
 
 /// A script: its statements in order.
-#[derive(Debug, Drop)]
+#[derive(Drop)]
 pub struct Script {
     pub stmts: Items<Stmt>,
 }

@@ -15,7 +15,7 @@ use std::marker::Model;
 ///
 /// Its calls are numbered from 1, reads and writes together, and those whose number is in a list
 /// fail. With an empty list none fails and its counts stay 0.
-#[derive(Debug, Drop)]
+#[derive(Drop)]
 pub struct MemFiles {
     alloc: Global,
     /// The writes, newest first, and then the files of the beginning.

@@ -11,7 +11,7 @@ use std::marker::Model;
 ///
 /// Its puts are numbered from 1, and those whose number is in a list fail. With an empty list none
 /// fails and its count stays 0.
-#[derive(Debug, Drop)]
+#[derive(Drop)]
 pub struct MemSink {
     bytes: Vec<u8>,
     failing: Vec<u64>,

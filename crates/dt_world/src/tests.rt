@@ -1,8 +1,11 @@
 use crate::{Files, MemFiles, MemSink, ReadFail, RealFiles, RealOut, Sink, WriteFail};
 use dt_base::Text;
 use std::alloc::{AllocError, Global};
-use std::fs;
+use std::fs::Permissions;
+use std::io::{ErrorKind, Write};
+use std::os::unix::fs::PermissionsExt;
 use std::test::Fail;
+use std::{fs, io};
 
 fn one_file(alloc: Global, name: &str, bytes: &[u8]) -> Result<Vec<(Text, Vec<u8>)>, AllocError> {
     let mut files = Vec::new(alloc);
@@ -64,6 +67,27 @@ fn files_of_the_machine(rt: HostRuntime) -> Result<(), Fail> {
         "a folder is no file"
     );
     assert!(rt; matches!(&files.write(".", b"x"), Err(WriteFail::Failed)));
+    assert!(rt; files.write(name, b"abc").is_ok(), "over a longer one");
+    assert!(rt; matches!(&files.read(name, 8), Ok(bytes) if bytes.as_slice() == b"abc".as_slice()));
+    fs::set_permissions(&rt, name, Permissions::from_mode(0))?;
+    assert!(rt;
+        matches!(&files.read(name, 8), Err(ReadFail::Failed) | Ok(_)),
+        "it may not be read, which does not hinder root"
+    );
+    fs::remove_file(&rt, name)?;
+    Ok(())
+}
+
+#[test]
+fn a_long_file_of_the_machine(rt: HostRuntime) -> Result<(), Fail> {
+    let name = "a_long_file_of_the_machine.txt";
+    let long = vec![in rt.alloc(); b'x'; 600_000]?;
+    let mut files = RealFiles::new(rt.alloc(), &rt);
+    assert!(rt; files.write(name, &long).is_ok());
+    assert!(rt;
+        matches!(&files.read(name, 600_000), Ok(bytes) if bytes.as_slice() == long.as_slice())
+    );
+    assert!(rt; matches!(&files.read(name, 599_999), Err(ReadFail::TooLong)));
     fs::remove_file(&rt, name)?;
     Ok(())
 }
@@ -82,5 +106,48 @@ fn a_writer_of_the_machine(rt: HostRuntime) -> Result<(), Fail> {
         "it was opened to be read"
     );
     fs::remove_file(&rt, name)?;
+    Ok(())
+}
+
+/// A writer that takes one byte at a time, and may not be able to pass them on.
+#[derive(Drop)]
+struct Slow {
+    taken: Vec<u8>,
+    is_stuck: bool,
+}
+
+impl Write for Slow {
+    fn write(&mut self, buf: &[u8]) -> io::Result<usize> {
+        match buf.first() {
+            Some(byte) => {
+                self.taken.push(*byte)?;
+                Ok(1)
+            }
+            None => Ok(0),
+        }
+    }
+
+    fn flush(&mut self) -> io::Result<()> {
+        if self.is_stuck {
+            Err(io::Error::from(ErrorKind::StorageFull))
+        } else {
+            Ok(())
+        }
+    }
+}
+
+#[test]
+fn a_slow_writer(rt: HostRuntime) -> Result<(), Fail> {
+    let mut slow = Slow {
+        taken: Vec::new(rt.alloc()),
+        is_stuck: false,
+    };
+    let mut out = RealOut::new(&mut slow);
+    assert!(rt; out.put(b"abc").is_ok());
+    drop(out);
+    assert_eq!(rt; slow.taken.as_slice(), b"abc".as_slice());
+    slow.is_stuck = true;
+    let mut stuck = RealOut::new(slow);
+    assert!(rt; matches!(&stuck.put(b"d"), Err(WriteFail::Failed)));
     Ok(())
 }

@@ -7,7 +7,7 @@ use Rattle.dt_model.specs.Table.{PlainTable}
 use Rattle.dt_model.specs.Vector.{Vector as Cells}
 use Rattle.expr_eval.specs.Scope.{vector_bound, table_bound}
 use Rattle.expr_model.specs.Surroundings.{Env, Var, Table, Vector, var_vector, var_table}
-use Rattle.expr_model.specs.Unbuilt.{unbuilt}
+use Rattle.vector_model.specs.Faults.{unbuilt}
 use Rattle.session_model.specs.Expression.{quiet}
 use Rattle.session_model.specs.Meanings.{Meaning}
 use Rattle.session_model.specs.Expression.{checked_value}

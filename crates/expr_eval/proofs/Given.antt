@@ -1,13 +1,13 @@
 -- A call that is given more than three arguments is not served.
 use Rattle.std.proofs.Common.{◌≡◌, ◌<◌, List, [], ◌∷◌, length, map, Result, Err, refl, arith}
-use Rattle.arg_bind.specs.Answers.{AnswersAs, IsStop}
-use Rattle.arg_bind.specs.declared.fail.EvalFail.{EvalFail}
-use Rattle.arg_bind.specs.declared.fail.EvalFail.TheVariants.{Stop, NoMemory}
+use Rattle.eval_fail.specs.Answers.{AnswersAs, IsStop}
+use Rattle.eval_fail.specs.declared.fail.EvalFail.{EvalFail}
+use Rattle.eval_fail.specs.declared.fail.EvalFail.TheVariants.{Stop, NoMemory}
 use Rattle.dt_base.specs.declared.fault.Fault.{Fault}
 use Rattle.expr_eval.specs.Slots.{slot_of}
 use Rattle.expr_eval.specs.declared.operands.Operand.{Operand}
 use Rattle.expr_model.specs.Functions.{value_of}
-use Rattle.expr_model.specs.Unbuilt.{unbuilt}
+use Rattle.vector_model.specs.Faults.{unbuilt}
 use Rattle.session_model.specs.Expression.{slot_vector}
 use Rattle.func_table.specs.declared.func.Func.{Func}
 use Rattle.func_table.specs.declared.slot.Slot.{Slot}

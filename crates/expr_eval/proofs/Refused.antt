@@ -1,8 +1,8 @@
 -- The refusal of an operation is the fault of its definition.
 use Rattle.std.proofs.Common.{ℕ, List, Result, Err, refl}
-use Rattle.arg_bind.specs.Answers.{AnswersAs}
-use Rattle.arg_bind.specs.declared.fail.EvalFail.{EvalFail}
-use Rattle.arg_bind.specs.declared.fail.EvalFail.TheVariants as eval
+use Rattle.eval_fail.specs.Answers.{AnswersAs}
+use Rattle.eval_fail.specs.declared.fail.EvalFail.{EvalFail}
+use Rattle.eval_fail.specs.declared.fail.EvalFail.TheVariants as eval
 use Rattle.dt_model.specs.Operations.{OpFault}
 use Rattle.expr_model.specs.Operators.{op_result}
 use Rattle.expr_eval.specs.Refusals.{Refuses}

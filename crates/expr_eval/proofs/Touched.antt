@@ -1,8 +1,8 @@
 -- Costs within what is promised.
 use Rattle.std.proofs.Common.{rules, ◌≡◌, ◌≤◌, ◌+◌, ◌*◌, ℕ, Bool, true, false, List, [], ◌∷◌, length, map, drop, get_or, All, Option, None, Some, Result, Ok, Err, option_map, if◌then◌else◌, ◌<◌, ◌++◌, ◌&&◌, refl, sym, ap, subst, ◌∙◌, add-one, drop-cons, arith}
 use Rattle.std.proofs.lemmas.List.Elements.{All-append, All-head, All-tail}
-use Rattle.arg_bind.specs.Answers.{AnswersAs}
-use Rattle.arg_bind.specs.declared.fail.EvalFail.{EvalFail}
+use Rattle.eval_fail.specs.Answers.{AnswersAs}
+use Rattle.eval_fail.specs.declared.fail.EvalFail.{EvalFail}
 use Rattle.dt_base.specs.declared.fault.Fault.{Fault}
 use Rattle.dt_model.specs.Combine.{total_length}
 use Rattle.dt_model.specs.Vector.{Vector}
@@ -16,8 +16,8 @@ use Rattle.expr_eval.specs.declared.operands.Operand.TheVariants.{Own, Lent}
 use Rattle.expr_model.specs.Surroundings.{Env}
 use Rattle.func_table.specs.Calls.{arity_of, func_of}
 use Rattle.session_model.specs.Expression.{quiet}
-use Rattle.vec_funcs.specs.Valued.{valued_of, vector_in}
-use Rattle.vec_funcs.specs.declared.valued.Valued.{Valued}
+use Rattle.valued.specs.Valued.{valued_of, vector_in}
+use Rattle.valued.specs.declared.column.Valued.{Valued}
 use Rattle.vector_model.specs.Functions as model
 
 -- a call, by its parts

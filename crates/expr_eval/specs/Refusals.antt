@@ -1,11 +1,11 @@
 -- Operations that are refused.
 --   Refuses w fail e   e is the fault of this refusal, told with the word w, or want of memory
 use Rattle.std.specs.Prelude.{ℕ, List, []}
-use Rattle.arg_bind.specs.Answers.{IsStop, IsNoMemory}
-use Rattle.arg_bind.specs.declared.fail.EvalFail.{EvalFail}
+use Rattle.eval_fail.specs.Answers.{IsStop, IsNoMemory}
+use Rattle.eval_fail.specs.declared.fail.EvalFail.{EvalFail}
 use Rattle.dt_base.specs.declared.fault.Code.TheVariants.{E04, E06, E07}
 use Rattle.dt_base.specs.Fault.{fault}
-use Rattle.expr_model.specs.Operators.{length_fault}
+use Rattle.vector_model.specs.Faults.{length_fault}
 use Rattle.na_ops.specs.declared.fail.OpFail.{OpFail}
 use Rattle.na_ops.specs.declared.fail.OpFail.TheVariants.{BadType, Length, Overflow, TooManyRows, NoMemory}
 

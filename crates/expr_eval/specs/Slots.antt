@@ -6,7 +6,7 @@ use Rattle.expr_eval.specs.declared.operands.Operand.{Operand}
 use Rattle.expr_eval.specs.declared.operands.Operand.TheVariants.{Own, Lent}
 use Rattle.func_table.specs.declared.slot.Slot.{Slot}
 use Rattle.func_table.specs.declared.slot.Slot.TheVariants.{Given, Flag, Absent}
-use Rattle.vec_funcs.specs.Valued.{valued_of}
+use Rattle.valued.specs.Valued.{valued_of}
 use Rattle.vector_model.specs.Functions as model
 
 -- the value, or the vector that is lent, without warnings

@@ -2,12 +2,14 @@
 --   cells_meant e s      the cells that e stands for, where the cost of its value is promised
 --   allowance e s        how many cells its value may touch, where that is promised
 --   Within o old new     the counter has grown by no more than o; where nothing is promised, as it may
+--   tail_allowance x t s how many cells a two-sided operator may touch behind the value x, where the
+--                        cost of its right side is promised
 --   IsMadeCell o         the operand is a value of one cell, of its own
 --   copied_cells o       the cells that are touched when the operand is made a value of its own
 -- A name, a literal and `c` of literals are promised for; nothing else is.
 use Rattle.std.specs.Prelude.{◌≡◌, ◌≤◌, ◌+◌, ◌*◌, ℕ, Bool, true, false, List, length, Option, None, Some, Result, Ok, Err, option_map, if◌then◌else◌}
 use Rattle.std.specs.List.{list_all}
-use Rattle.arg_bind.specs.declared.fail.EvalFail.{EvalFail}
+use Rattle.eval_fail.specs.declared.fail.EvalFail.{EvalFail}
 use Rattle.dt_base.specs.declared.fault.Fault.{Fault}
 use Rattle.dt_model.specs.Vector.{Vector}
 use Rattle.dt_tree.specs.declared.tree.Arg.{Arg}
@@ -23,7 +25,9 @@ use Rattle.expr_model.specs.Surroundings.{Env, name_vector}
 use Rattle.func_table.specs.declared.func.Arity.{Arity}
 use Rattle.func_table.specs.declared.func.Arity.TheVariants.{Unnamed}
 use Rattle.func_table.specs.Calls.{arity_of, func_of}
-use Rattle.vec_funcs.specs.declared.valued.Valued.{Valued}
+use Rattle.session_model.specs.Meaning.{value_in}
+use Rattle.valued.specs.declared.column.Valued.{Valued}
+use Rattle.vector_model.specs.Functions as model
 
 abbrev pub is_literal : Expr → Bool
 is_literal (Lit cell kind) = true
@@ -67,6 +71,16 @@ allowance e s = option_map (λ k. 2 * k + 2) (cells_meant e s)
 abbrev pub Within : Option ℕ → ℕ → ℕ → Type 0
 Within None old new = Unit {0}
 Within (Some n) old new = new ≤ old + n
+
+-- the cells of a value; a fault has none
+abbrev pub value_cells : Result model.Valued Fault → ℕ
+value_cells (Ok v) = length v.vector.cells
+value_cells (Err f) = 0
+
+-- each cell of both sides once, beside what the value of the right side may touch
+abbrev pub tail_allowance : model.Valued → Tail → Env → Option ℕ
+tail_allowance left t s =
+    option_map (λ k. k + (length left.vector.cells + value_cells (value_in t.arg s))) (cells_meant t.arg s)
 
 -- a value of one cell, of its own
 abbrev pub IsMadeCell : Operand → Type 0

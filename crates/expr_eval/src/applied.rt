@@ -1,20 +1,21 @@
 ghost use Rattle.std.specs.Prelude.{◌≡◌, ◌+◌, ◌≤◌, map, IfErr};
-ghost use Rattle.arg_bind.specs.Answers.{AnswersAs, IsOwn};
+ghost use Rattle.eval_fail.specs.Answers.{AnswersAs, IsOwn};
 ghost use Rattle.expr_eval.specs.Slots.{slot_of};
 ghost use Rattle.expr_model.specs.Functions.{one_value, flagged_value, three_value, value_of, value_of_one, value_of_two, value_of_three};
 ghost use Rattle.session_model.specs.Expression.{slot_vector, slot_warns, all_warns, warns_in, applied, combined};
 ghost use Rattle.dt_model.specs.Combine.{total_length};
-ghost use Rattle.vec_funcs.specs.Valued.{valued_of, vector_in};
+ghost use Rattle.valued.specs.Valued.{valued_of, vector_in};
 
 use crate::operands::Operand;
 use crate::operations::{choice_value, conversion, na_test};
-use arg_bind::{EvalFail, stop_unbuilt};
 use dt_base::{ColType, Steps, Warns};
+use eval_fail::{EvalFail, stop_unbuilt};
 use func_table::{Func, Slot};
 use na_vector::Column;
 use std::alloc::Global;
 use std::sync::ledger::Ledger;
-use vec_funcs::{Valued, all, any, combine, first, last, length, max, min, sum};
+use valued::Valued;
+use vec_funcs::{all, any, combine, first, last, length, max, min, sum};
 
 /// What a function of one vector gives.
 fn one_value<L: Ledger>(

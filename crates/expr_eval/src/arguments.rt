@@ -1,5 +1,5 @@
 ghost use Rattle.std.specs.Prelude.{◌≡◌, ◌+◌, ◌<◌, ◌++◌, ◌∷◌, [], cond, map, Some, OnOk, IfErr};
-ghost use Rattle.arg_bind.specs.Answers.{Answers, AnswersAs, IsStop, IsOwn, IsNoMemory};
+ghost use Rattle.eval_fail.specs.Answers.{Answers, AnswersAs, IsStop, IsOwn, IsNoMemory};
 ghost use Rattle.expr_eval.specs.Scope.{argument_seen, env_of, table_lent};
 ghost use Rattle.session_model.specs.Expression.{names_in, arg_at, flag_slot, table_at, table_in, described_table, later_fault};
 ghost use Rattle.session_model.specs.Meaning.{meaning, arg_meaning};
@@ -9,10 +9,11 @@ ghost use Rattle.session_model.specs.Form.{name_in};
 
 use crate::names::var_table;
 use crate::{Scope, Vars};
-use arg_bind::{EvalFail, place, stop, stop_unbuilt};
+use arg_bind::place;
 use dt_base::{Cell, Code, ColType};
 use dt_table::Table;
 use dt_tree::{Arg, Expr};
+use eval_fail::{EvalFail, stop, stop_unbuilt};
 use func_table::{Formal, Later, Slot, formal_word, later_named};
 use std::alloc::{AllocError, Global};
 

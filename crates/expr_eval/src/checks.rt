@@ -1,5 +1,5 @@
 ghost use Rattle.std.specs.Prelude.{◌≡◌, ◌<◌, length, map, IfErr};
-ghost use Rattle.arg_bind.specs.Answers.{Answers, AnswersAs, IsOwn};
+ghost use Rattle.eval_fail.specs.Answers.{Answers, AnswersAs, IsOwn};
 ghost use Rattle.expr_eval.specs.Scope.{env_of, IsScope};
 ghost use Rattle.session_model.specs.Expression.{names_in, arg_at, check_tail, check_tails, given, slot_as, slot_at, slots, all_slots, each_argument, check_vectors, check_kind, check_named, check_call};
 ghost use Rattle.session_model.specs.Meaning.{meaning, arg_meaning, tail_meaning, check_of};
@@ -13,9 +13,10 @@ use crate::arguments::{add, flag_given, later_call, table_given};
 use crate::kinds::{description_type, func_type, sign_type, tail_type};
 use crate::names::name_kind;
 use crate::{Scope, Vars};
-use arg_bind::{EvalFail, bind, next, place, stop, stop_unbuilt};
+use arg_bind::{bind, next, place};
 use dt_base::{Code, ColType, UnOp};
 use dt_tree::{Arg, Expr, Tail};
+use eval_fail::{EvalFail, stop, stop_unbuilt};
 use func_table::{
     Arity, Formal, Func, Kind, Slot, arity_of, formals, func_named, func_word, is_flag, kind_of,
 };

@@ -1,13 +1,13 @@
 ghost use Rattle.std.specs.Prelude.{◌≡◌, IfErr};
-ghost use Rattle.arg_bind.specs.Answers.{Answers, IsOwn};
+ghost use Rattle.eval_fail.specs.Answers.{Answers, IsOwn};
 ghost use Rattle.dt_model.specs.Operations.{arithmetic_type};
 ghost use Rattle.expr_model.specs.Functions.{type_of, type_of_one, type_of_two, type_of_three, one_type, flagged_type, three_type, choice_type, description_type};
 ghost use Rattle.expr_model.specs.Operators.{op_word, unary_word, typed_as, range_type, tail_type, sign_type};
 ghost use Rattle.vector_model.specs.Functions.{sum_type, any_type, all_type, extreme_type};
 
-use arg_bind::{EvalFail, stop, stop_unbuilt};
 use dt_base::{Code, ColType, Op, UnOp};
 use dt_tree::BinOp;
+use eval_fail::{EvalFail, stop, stop_unbuilt};
 use func_table::{Func, Slot};
 use na_ops::{common, op_type};
 use std::alloc::Global;

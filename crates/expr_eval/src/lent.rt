@@ -1,5 +1,5 @@
 ghost use Rattle.std.specs.Prelude.{◌≡◌, ◌+◌, ◌<◌, ◌≤◌, ◌^◌, length, pos, map, Ok, IfOk, IfErr};
-ghost use Rattle.arg_bind.specs.Answers.{AnswersAs, IsOwn};
+ghost use Rattle.eval_fail.specs.Answers.{AnswersAs, IsOwn};
 ghost use Rattle.dt_base.specs.Warns.{no_warns};
 ghost use Rattle.dt_base.specs.declared.cell.Cell.TheVariants as is;
 ghost use Rattle.dt_base.specs.declared.limits.TheConstants.{MAX_ROWS};
@@ -9,19 +9,19 @@ ghost use Rattle.session_model.specs.Expression.{quiet};
 ghost use Rattle.expr_model.specs.Surroundings.{var_vector, bracket_vector, group_vector, special_vector, name_vector, row_number, integer};
 ghost use Rattle.na_vector.specs.Words.{int_cell};
 ghost use Rattle.na_words.specs.Shown.{vector_from};
-ghost use Rattle.vec_funcs.specs.Valued.{valued_of};
+ghost use Rattle.valued.specs.Valued.{valued_of};
 
 use crate::names::{bracket_vector, var_vector};
 use crate::operands::Operand;
 use crate::{Scope, Vars};
-use arg_bind::{EvalFail, stop};
 use dt_base::limits::NA_WORD;
 use dt_base::{Code, ColType, Steps, Warns};
+use eval_fail::{EvalFail, stop};
 use func_table::{Special, special_named};
 use na_vector::Column;
 use std::alloc::{AllocError, Global};
 use std::sync::ledger::Ledger;
-use vec_funcs::{Valued, one};
+use valued::{Valued, one};
 
 /// A number as a word.
 fn number_word(n: u64) -> i64

@@ -1,16 +1,16 @@
 ghost use Rattle.std.specs.Prelude.{◌≡◌, Ok, IfErr};
-ghost use Rattle.arg_bind.specs.Answers.{AnswersAs, IsOwn};
+ghost use Rattle.eval_fail.specs.Answers.{AnswersAs, IsOwn};
 ghost use Rattle.session_model.specs.Expression.{quiet};
 ghost use Rattle.expr_model.specs.Surroundings.{one_cell};
 ghost use Rattle.session_model.specs.Form.{literal_cell};
-ghost use Rattle.vec_funcs.specs.Valued.{valued_of};
+ghost use Rattle.valued.specs.Valued.{valued_of};
 
-use arg_bind::EvalFail;
 use dt_base::limits::NA_WORD;
 use dt_base::{Cell, ColType, Text};
+use eval_fail::EvalFail;
 use na_words::NA_LGL;
 use std::alloc::Global;
-use vec_funcs::{Valued, one};
+use valued::{Valued, one};
 
 /// A logical literal; any other cell counts as NA.
 fn lgl_literal(alloc: Global, cell: &Cell) -> Result<Valued, EvalFail>

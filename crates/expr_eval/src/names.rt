@@ -1,5 +1,5 @@
 ghost use Rattle.std.specs.Prelude.{◌≡◌, ◌<◌, false, is_some, length, IfSome, IfErr};
-ghost use Rattle.arg_bind.specs.Answers.{Answers, AnswersAs, IsOwn, is_of_file};
+ghost use Rattle.eval_fail.specs.Answers.{Answers, AnswersAs, IsOwn, is_of_file};
 ghost use Rattle.dt_model.specs.Table.{place_of};
 ghost use Rattle.expr_eval.specs.Scope.{env_of, IsScope, vector_lent, table_lent, column_seen, columns_of};
 ghost use Rattle.session_model.specs.Columns.{is_column};
@@ -7,9 +7,9 @@ ghost use Rattle.session_model.specs.Expression.{kind_in};
 ghost use Rattle.expr_model.specs.Surroundings.{column_named, var_vector, var_table, bracket_vector, group_vector, special_vector, name_vector};
 
 use crate::{Scope, Vars};
-use arg_bind::{EvalFail, stop};
 use dt_base::{Code, ColName, ColType};
 use dt_table::Table;
+use eval_fail::{EvalFail, stop};
 use func_table::{Special, special_named};
 use na_vector::{Column, Frame};
 use std::alloc::Global;

@@ -1,16 +1,16 @@
 ghost use Rattle.std.specs.Prelude.{◌≡◌, ◌+◌, Ok, IfErr};
-ghost use Rattle.arg_bind.specs.Answers.{AnswersAs, IsOwn};
+ghost use Rattle.eval_fail.specs.Answers.{AnswersAs, IsOwn};
 ghost use Rattle.expr_eval.specs.Slots.{operand_of};
 ghost use Rattle.expr_eval.specs.Touches.{copied_cells};
-ghost use Rattle.vec_funcs.specs.Valued.{valued_of};
+ghost use Rattle.valued.specs.Valued.{valued_of};
 
 use crate::lent::copied;
-use arg_bind::EvalFail;
 use dt_base::{Steps, Warns};
+use eval_fail::EvalFail;
 use na_vector::Column;
 use std::alloc::Global;
 use std::sync::ledger::Ledger;
-use vec_funcs::Valued;
+use valued::Valued;
 
 /// What an operator or a function is given: a value that is made, or a column that a name stands for,
 /// which is lent and only read.

@@ -1,5 +1,5 @@
-ghost use Rattle.std.specs.Prelude.{◌≡◌, Ok, codes, IfErr};
-ghost use Rattle.arg_bind.specs.Answers.{AnswersAs, IsOwn};
+ghost use Rattle.std.specs.Prelude.{◌≡◌, ◌≤◌, ◌+◌, Ok, codes, length, IfErr};
+ghost use Rattle.eval_fail.specs.Answers.{AnswersAs, IsOwn};
 ghost use Rattle.dt_base.specs.Warns.{both_warns};
 ghost use Rattle.dt_model.specs.Operations.{binary, unary, chosen, contained};
 ghost use Rattle.expr_eval.specs.Refusals.{Refuses};
@@ -7,20 +7,20 @@ ghost use Rattle.expr_eval.specs.Slots.{operand_of};
 ghost use Rattle.expr_model.specs.Functions.{choice_value, conversion, na_test};
 ghost use Rattle.session_model.specs.Expression.{met, signed};
 ghost use Rattle.expr_model.specs.Operators.{op_word, unary_word, op_result, tail_value, sign_value};
-ghost use Rattle.vec_funcs.specs.Valued.{valued_of, vector_of};
+ghost use Rattle.valued.specs.Valued.{valued_of, vector_of};
 
 use crate::kinds::{op_name, unary_name};
 use crate::lent::unwarned;
 use crate::operands::Operand;
 use crate::ranges::range_value;
-use arg_bind::{EvalFail, stop, stop_length};
 use dt_base::{Code, ColType, Op, Steps, UnOp};
 use dt_tree::BinOp;
+use eval_fail::{EvalFail, stop, stop_length};
 use na_ops::{OpFail, binary, choose, coerce, contained, unary};
 use na_vector::Column;
 use std::alloc::Global;
 use std::sync::ledger::Ledger;
-use vec_funcs::Valued;
+use valued::Valued;
 
 /// The fault of an operation that is refused, told with this word.
 fn refused(alloc: Global, word: &str, fail: OpFail) -> EvalFail
@@ -46,6 +46,7 @@ fn arith_value<L: Ledger>(
 ) -> Result<Column, EvalFail>
     ensures answer { AnswersAs vector_of (op_result (op_word op) (binary op a.now.vector b.now.vector)) result }
     ensures own { IfErr result IsOwn }
+    ensures touches { steps.new ≤ steps.old + (length a.now.vector.cells + length b.now.vector.cells) }
 {
     match binary(alloc, op, a, b, steps) {
         Ok(column) => Ok(column),
@@ -61,6 +62,7 @@ fn member_value<L: Ledger>(
 ) -> Result<Column, EvalFail>
     ensures answer { AnswersAs vector_of (Ok (contained a.now.vector b.now.vector)) result }
     ensures own { IfErr result IsOwn }
+    ensures touches { steps.new ≤ steps.old + (length a.now.vector.cells + length b.now.vector.cells) }
 {
     match contained(alloc, a, b, steps) {
         Ok(column) => Ok(column),
@@ -78,6 +80,7 @@ fn tail_value<L: Ledger>(
 ) -> Result<Column, EvalFail>
     ensures answer { AnswersAs vector_of (tail_value op a.now.vector b.now.vector) result }
     ensures own { IfErr result IsOwn }
+    ensures touches { steps.new ≤ steps.old + (length a.now.vector.cells + length b.now.vector.cells) }
 {
     match op {
         BinOp::Arith(op) => arith_value(alloc, op, a, b, steps),
@@ -86,8 +89,9 @@ fn tail_value<L: Ledger>(
     }
 }
 
-/// What a two-sided operator gives for two values, with the warnings of both.
-pub fn met<L: Ledger>(
+/// What a two-sided operator gives for two values, with the warnings of both. It touches each cell of
+/// both once at most.
+fn of_both<L: Ledger>(
     alloc: Global,
     op: BinOp,
     left: &Operand<'_>,
@@ -96,12 +100,32 @@ pub fn met<L: Ledger>(
 ) -> Result<Valued, EvalFail>
     ensures answer { AnswersAs valued_of (met op (operand_of left.now) (operand_of right.now)) result }
     ensures own { IfErr result IsOwn }
+    ensures touches { steps.new ≤ steps.old
+        + (length (operand_of left.now).vector.cells + length (operand_of right.now).vector.cells) }
 {
     let column = tail_value(alloc, op, left.column(), right.column(), steps)?;
     Ok(Valued {
         column,
         warns: left.warns().both(right.warns()),
     })
+}
+
+/// The same, of values that end here.
+pub fn met<'a, L: Ledger>(
+    alloc: Global,
+    op: BinOp,
+    left: Operand<'a>,
+    right: Operand<'a>,
+    steps: &mut Steps<L>,
+) -> Result<Operand<'a>, EvalFail>
+    ensures answer { AnswersAs operand_of (met op (operand_of left.entry) (operand_of right.entry)) result }
+    ensures own { IfErr result IsOwn }
+    ensures touches { steps.new ≤ steps.old
+        + (length (operand_of left.entry).vector.cells + length (operand_of right.entry).vector.cells) }
+{
+    let value = of_both(alloc, op, &left, &right, steps);
+    drop((left, right));
+    Ok(Operand::Own(value?))
 }
 
 #[tactic(auto, using(crate::proofs::Refused::refused_told))]

@@ -1,19 +1,19 @@
 ghost use Rattle.std.specs.Prelude.{◌≡◌, ◌≢◌, ◌+◌, ◌<◌, ◌≤◌, ◌^◌, ◌+ℤ◌, ◌-ℤ◌, ◌≤ℤ◌, pos, negsuc, length, map, unsigned_abs, Some, ◌++◌, ◌∷◌, [], IfOk, IfSome, OnOk, IfErr};
 ghost use Rattle.std.specs.Int.{is_negative};
 ghost use Rattle.std.specs.List.{range_with_len};
-ghost use Rattle.arg_bind.specs.Answers.{Answers, AnswersAs, IsOwn};
+ghost use Rattle.eval_fail.specs.Answers.{Answers, AnswersAs, IsOwn};
 ghost use Rattle.dt_model.specs.Operations.{number};
 ghost use Rattle.dt_model.specs.Vector.{cell_at};
 ghost use Rattle.expr_model.specs.Operators.{end_of, distance, towards, numbers_between, between, range};
 ghost use Rattle.na_vector.specs.Words.{int_cell, lgl_cell, text_cell};
 ghost use Rattle.na_words.specs.Shown.{shown, IsShown};
-ghost use Rattle.vec_funcs.specs.Valued.{vector_of};
+ghost use Rattle.valued.specs.Valued.{vector_of};
 ghost use Rattle.expr_eval.specs.Ranges.{IsNumber};
 
 use crate::kinds::range_type;
-use arg_bind::{EvalFail, stop, stop_length};
 use dt_base::limits::{MAX_ROWS, NA_WORD};
 use dt_base::{Code, Steps, Text};
+use eval_fail::{EvalFail, stop, stop_length};
 use na_vector::Column;
 use na_words::{NA_LGL, Words, words_of};
 use std::alloc::{AllocError, Global};
@@ -71,6 +71,7 @@ fn end_of<L: Ledger>(
     ensures end { Answers (end_of column.now.vector) result }
     ensures inside { IfOk result (λ o. IfSome o IsNumber) }
     ensures own { IfErr result IsOwn }
+    ensures touches { steps.new ≤ steps.old + length column.now.vector.cells }
 {
     let n = column.len();
     if n != 1 {
@@ -210,6 +211,7 @@ pub fn range_value<L: Ledger>(
 ) -> Result<Column, EvalFail>
     ensures answer { AnswersAs vector_of (range a.now.vector b.now.vector) result }
     ensures own { IfErr result IsOwn }
+    ensures touches { steps.new ≤ steps.old + (length a.now.vector.cells + length b.now.vector.cells) }
 {
     range_type(alloc, a.kind(), b.kind())?;
     let x = end_of(alloc, a, steps)?;

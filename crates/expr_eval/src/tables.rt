@@ -1,5 +1,5 @@
 ghost use Rattle.std.specs.Prelude.{◌≡◌, ◌≤◌, length, map, Some, IfOk, IfErr};
-ghost use Rattle.arg_bind.specs.Answers.{AnswersAs, IsOwn};
+ghost use Rattle.eval_fail.specs.Answers.{AnswersAs, IsOwn};
 ghost use Rattle.dt_base.specs.declared.cell.Cell.TheVariants as is;
 ghost use Rattle.dt_base.specs.declared.cell.ColType.TheVariants as ty;
 ghost use Rattle.dt_table.specs.Plain.{plain};
@@ -7,17 +7,17 @@ ghost use Rattle.expr_model.specs.Functions.{description_of};
 ghost use Rattle.session_model.specs.Expression.{quiet};
 ghost use Rattle.na_vector.specs.Words.{text_cell, text_vector};
 ghost use Rattle.na_words.specs.Shown.{vector_from};
-ghost use Rattle.vec_funcs.specs.Valued.{valued_of};
+ghost use Rattle.valued.specs.Valued.{valued_of};
 
 use crate::lent::{number_value, unwarned};
-use arg_bind::{EvalFail, stop, stop_unbuilt};
 use dt_base::limits::MAX_ROWS;
 use dt_base::{Code, ColName, Text};
 use dt_table::Table;
+use eval_fail::{EvalFail, stop, stop_unbuilt};
 use func_table::Func;
 use na_vector::Column;
 use std::alloc::{AllocError, Global};
-use vec_funcs::Valued;
+use valued::Valued;
 
 /// The number of rows.
 #[tactic(auto, using(dt_table::proofs::Plain::counts))]

@@ -1,14 +1,14 @@
 ghost use Rattle.std.specs.Prelude.{◌≡◌, ◌+◌, ◌<◌, ◌≤◌, true, length, map, option_map, All, IfOk, IfErr};
-ghost use Rattle.arg_bind.specs.Answers.{AnswersAs, IsOwn};
+ghost use Rattle.eval_fail.specs.Answers.{AnswersAs, IsOwn};
 ghost use Rattle.expr_eval.specs.Scope.{env_of, IsScope};
 ghost use Rattle.expr_eval.specs.Slots.{operand_of, slot_of};
-ghost use Rattle.expr_eval.specs.Touches.{is_literal, is_literal_argument, are_literals, joined_cells, call_cells, cells_meant, allowance, Within, IsMadeCell, IsOneCell, still_touched};
+ghost use Rattle.expr_eval.specs.Touches.{is_literal, is_literal_argument, are_literals, joined_cells, call_cells, cells_meant, allowance, Within, IsMadeCell, IsOneCell, still_touched, tail_allowance};
 ghost use Rattle.session_model.specs.Expression.{names_in, arg_at, flag_slot, value_tail, value_tails, signed, given, slot_as, slot_at, slots, each_argument, combined, value_vectors, value_kind, value_call};
 ghost use Rattle.session_model.specs.Meaning.{meaning, arg_meaning, tail_meaning, value_in};
 ghost use Rattle.func_table.specs.Calls.{arity_of, func_of, is_flag, kind_of};
 ghost use Rattle.session_model.specs.Binding.{places, place_of};
 ghost use Rattle.vector_model.specs.Then.{then_do};
-ghost use Rattle.vec_funcs.specs.Valued.{valued_of};
+ghost use Rattle.valued.specs.Valued.{valued_of};
 
 use crate::applied::{applied, combined};
 use crate::arguments::{add, flag_given, later_call, table_given};
@@ -18,15 +18,16 @@ use crate::operands::{Operand, owned};
 use crate::operations::{met, signed};
 use crate::tables::description;
 use crate::{Scope, Vars};
-use arg_bind::{EvalFail, bind, next, place, stop, stop_unbuilt};
+use arg_bind::{bind, next, place};
 use dt_base::{Code, Steps, UnOp};
 use dt_tree::{Arg, Expr, Tail};
+use eval_fail::{EvalFail, stop, stop_unbuilt};
 use func_table::{
     Arity, Formal, Func, Kind, Slot, arity_of, formals, func_named, func_word, is_flag, kind_of,
 };
 use std::alloc::Global;
 use std::sync::ledger::Ledger;
-use vec_funcs::Valued;
+use valued::Valued;
 
 /// The value of an expression in its surroundings with its warnings, or its first fault.
 ///
@@ -140,9 +141,10 @@ fn eval_tail<'a, V: Vars, L: Ledger>(
     requires { IsScope s.now }
     ensures answer { AnswersAs operand_of (value_tail (env_of V.bound s.now) (operand_of left.entry) (tail_meaning t.now)) result }
     ensures own { IfErr result IsOwn }
+    ensures touches { Within (tail_allowance (operand_of left.entry) t.now (env_of V.bound s.now)) steps.old steps.new }
 {
     let right = eval_operand(alloc, &t.arg, s, steps)?;
-    Ok(Operand::Own(met(alloc, t.op, &left, &right, steps)?))
+    met(alloc, t.op, left, right, steps)
 }
 
 #[cycle(eval)]

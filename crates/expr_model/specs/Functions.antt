@@ -30,7 +30,7 @@ use Rattle.vector_model.specs.Then.{then_do}
 use Rattle.vector_model.specs.Functions.{Valued, sum_type, sum_value, min_type, min_value, max_type, max_value, any_type, any_value, all_type, all_value, first_type, first_value, last_type, last_value, length_type, length_value}
 use Rattle.expr_model.specs.Operators.{op_result, sign_type, sign_value}
 use Rattle.expr_model.specs.Surroundings.{integer}
-use Rattle.expr_model.specs.Unbuilt.{unbuilt}
+use Rattle.vector_model.specs.Faults.{unbuilt}
 
 -- the vector, with these warnings
 abbrev pub with_warns : Warns → Result Vector Fault → Result Valued Fault

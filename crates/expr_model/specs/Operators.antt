@@ -15,7 +15,7 @@ use Rattle.dt_base.specs.declared.cell.Cell.TheVariants as is
 use Rattle.dt_base.specs.declared.cell.ColType.{ColType}
 use Rattle.dt_base.specs.declared.cell.ColType.TheVariants as ty
 use Rattle.dt_base.specs.declared.fault.Fault.{Fault}
-use Rattle.dt_base.specs.declared.fault.Code.TheVariants.{E04, E05, E06, E07, E19}
+use Rattle.dt_base.specs.declared.fault.Code.TheVariants.{E04, E06, E07, E19}
 use Rattle.dt_base.specs.Fault.{fault}
 use Rattle.dt_base.specs.declared.limits.TheConstants.{MAX_ROWS}
 use Rattle.dt_base.specs.declared.operators.Op.{Op}
@@ -26,6 +26,7 @@ use Rattle.dt_model.specs.Operations.{OpFault, BadType, Length, Overflow, TooMan
 use Rattle.dt_model.specs.Vector.{Vector, cell_at}
 use Rattle.dt_tree.specs.declared.tree.BinOp.{BinOp}
 use Rattle.dt_tree.specs.declared.tree.BinOp.TheVariants.{Arith, In, Range}
+use Rattle.vector_model.specs.Faults.{length_fault}
 use Rattle.vector_model.specs.Then.{then_do}
 
 -- an operator as it is written
@@ -43,10 +44,6 @@ op_word op.Gt = codes ">"
 op_word op.Ge = codes ">="
 op_word op.And = codes "&"
 op_word op.Or = codes "|"
-
--- a length where another is wanted
-abbrev pub length_fault : ℕ → ℕ → Fault
-length_fault n m = record { code = E05; what = []; n = n; m = m }
 
 -- Types and overflow are told with the operator's word. Of two lengths the right one stands where the
 -- left one is wanted.

@@ -24,7 +24,7 @@ use Rattle.dt_base.specs.declared.fault.Code.TheVariants.{E02, E03, E04, E20}
 use Rattle.dt_base.specs.Fault.{fault}
 use Rattle.dt_model.specs.Table.{PlainTable, ColumnHead, column_of, place_of}
 use Rattle.dt_model.specs.Vector.{Vector as Cells, gathered}
-use Rattle.expr_model.specs.Rows.{Places}
+use Rattle.row_model.specs.Rows.{Places}
 use Rattle.func_table.specs.declared.special.Special.{Special}
 use Rattle.func_table.specs.declared.special.Special.TheVariants as special
 use Rattle.func_table.specs.Special.{special_of}

@@ -3,11 +3,9 @@
 //! - `Surroundings`: what an expression meets, and what a name gives there.
 //! - `Operators`: the operators, with `%in%` and `:`, on types and on vectors.
 //! - `Functions`: what a function gives for its arguments, on types and on vectors.
-//! - `Rows`: the rows that the i of a bracket chooses.
-//! - `Lengths`: the lengths of vectors that stand side by side.
 //!
 //! It runs nothing and knows nothing of trees; `session_model` has the meaning of whole expressions.
-//! Contracts of `expr_eval` and `row_choice` cite it, and a reader checks it against docs/LANGUAGE.md.
-//! It stands on `dt_model` and `vector_model` (operators and functions on vectors) and on `func_table`
-//! (the tables of calls).
+//! Contracts of `expr_eval` cite it, and a reader checks it against docs/LANGUAGE.md. It stands on
+//! `dt_model` and `vector_model` (operators and functions on vectors), on `row_model` (chosen rows) and
+//! on `func_table` (the tables of calls).
 #![tactic(auto)]

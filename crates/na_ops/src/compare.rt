@@ -123,7 +123,9 @@ pub fn compare<K: Comparison>(alloc: Global, a: Words<'_>, b: Words<'_>) -> Resu
         (Words::Lgl(x), Words::Int(y)) => over::<u8, i64, u8, NumbersTest<K>>(alloc, x, y),
         (Words::Int(x), Words::Lgl(y)) => over::<i64, u8, u8, NumbersTest<K>>(alloc, x, y),
         (Words::Int(x), Words::Int(y)) => over::<i64, i64, u8, NumbersTest<K>>(alloc, x, y),
-        (Words::Chr(x), _) => compare_texts_left::<K>(alloc, x, b),
+        (Words::Chr(x), Words::Lgl(_)) => compare_texts_left::<K>(alloc, x, b),
+        (Words::Chr(x), Words::Int(_)) => compare_texts_left::<K>(alloc, x, b),
+        (Words::Chr(x), Words::Chr(_)) => compare_texts_left::<K>(alloc, x, b),
         (Words::Lgl(_), Words::Chr(y)) => compare_texts_right::<K>(alloc, a, y),
         (Words::Int(_), Words::Chr(y)) => compare_texts_right::<K>(alloc, a, y),
     }

@@ -1,7 +1,7 @@
 use std::alloc::AllocError;
 
 /// Why an operation on columns is refused, in the order in which it is looked at.
-#[derive(Debug, Drop)]
+#[derive(Drop)]
 pub enum OpFail {
     /// The types have no result.
     BadType,

@@ -33,6 +33,3 @@ pub use membership::contained;
 pub use na_words::coerce;
 pub use one_sided::unary;
 pub use two_sided::{binary, common, op_type};
-
-#[cfg(test)]
-mod tests;

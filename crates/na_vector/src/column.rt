@@ -13,12 +13,12 @@ use std::sync::ledger::Ledger;
 
 /// A list of cells of one type, at most 16,777,216. Contracts see its vector, and a number, spare:
 /// so many places are there for more cells, and for texts that are put, without more memory.
-#[derive(Debug, Drop)]
+#[derive(Drop)]
 pub struct Column {
     store: Store,
 }
 
-#[derive(Debug, Drop)]
+#[derive(Drop)]
 enum Store {
     Lgl(Vec<u8>),
     Int(Vec<i64>),

@@ -1,4 +1,4 @@
-ghost use Rattle.std.specs.Prelude.{◌≡◌, ◌<◌, IfOk, map, length, All};
+ghost use Rattle.std.specs.Prelude.{◌≡◌, ◌<◌, IfOk, map, length, All, Some};
 ghost use Rattle.dt_model.specs.Vector.{IsWithin, picked};
 ghost use Rattle.na_vector.specs.Words.{int_cell, lgl_cell, text_cell, IsLglWord};
 
@@ -89,6 +89,17 @@ pub fn gather_texts(
         out.push(text_at(texts, *row)?)?;
     }
     Ok(out)
+}
+
+/// Each of these rows, as a place that is there.
+pub fn row_places(alloc: Global, rows: &[u32]) -> Result<Vec<Option<u32>>, AllocError>
+    ensures { IfOk result (λ places. places.items ≡ map Some rows.now) }
+{
+    let mut places = Vec::with_capacity(alloc, rows.len())?;
+    for row in rows {
+        places.push(Some(*row))?;
+    }
+    Ok(places)
 }
 
 pub fn copied_texts(alloc: Global, texts: &[Option<Text>]) -> Result<Vec<Option<Text>>, AllocError>

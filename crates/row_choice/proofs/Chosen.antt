@@ -3,14 +3,14 @@ use Rattle.std.proofs.Common.{◌≡◌, ◌≤◌, ◌==◌, ℕ, zero, suc, po
 use Rattle.std.specs.List.{list_all, list_any}
 use Rattle.std.proofs.lemmas.Grind.{common_steps}
 use Rattle.std.proofs.lemmas.List.Elements.{All-nil, All-cons, All-append}
-use Rattle.arg_bind.specs.Answers.{AnswersAs}
-use Rattle.arg_bind.specs.declared.fail.EvalFail.{EvalFail}
+use Rattle.eval_fail.specs.Answers.{AnswersAs}
+use Rattle.eval_fail.specs.declared.fail.EvalFail.{EvalFail}
 use Rattle.dt_base.specs.declared.cell.Cell.{Cell}
 use Rattle.dt_base.specs.declared.cell.Cell.TheVariants as is
 use Rattle.dt_base.specs.declared.cell.ColType.TheVariants as ty
 use Rattle.dt_base.specs.declared.fault.Fault.{Fault}
 use Rattle.dt_model.specs.Vector.{IsWithin, Vector, cell_at}
-use Rattle.expr_model.specs.Rows.{Places, all_rows, by_place, by_truth, chosen, chosen_by, is_below_or_zero, is_below_zero, is_true, leaves_out, left_rows, named_row, named_rows, true_rows}
+use Rattle.row_model.specs.Rows.{Places, all_rows, by_place, by_truth, chosen, chosen_by, is_below_or_zero, is_below_zero, is_true, leaves_out, left_rows, named_row, named_rows, true_rows}
 use Rattle.row_choice.proofs.Ranges.{all_count, all_within, rows_short, rows_within}
 
 -- each place is within n rows, and there are at most m

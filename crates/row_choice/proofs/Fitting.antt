@@ -3,9 +3,9 @@ use Rattle.std.proofs.Common.{◌≡◌, ◌⊎◌, ◌==◌, ◌||◌, ℕ, Boo
 use Rattle.std.proofs.lemmas.Grind.{common_steps}
 use Rattle.std.proofs.lemmas.List.Elements.{All-nil, All-cons}
 use Rattle.dt_base.specs.declared.fault.Fault.{Fault}
-use Rattle.expr_model.specs.Lengths.{fitting}
-use Rattle.vec_funcs.specs.Valued.{vector_in}
-use Rattle.vec_funcs.specs.declared.valued.Valued.{Valued}
+use Rattle.row_model.specs.Lengths.{fitting}
+use Rattle.valued.specs.Valued.{vector_in}
+use Rattle.valued.specs.declared.column.Valued.{Valued}
 
 abbrev pub Fits : ℕ → Valued → Type 0
 Fits n v = (length v.column.vector.cells ≡ 1) ⊎ (length v.column.vector.cells ≡ n)

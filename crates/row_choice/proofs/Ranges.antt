@@ -6,7 +6,7 @@ use Rattle.std.proofs.lemmas.List.Elements.{All-nil, All-cons, filter-append}
 use Rattle.std.proofs.lemmas.List.FromFn.{length-map-range_with_len, map-range_with_len_more}
 use Rattle.dt_model.specs.Vector.{IsWithin}
 use Rattle.dt_base.specs.declared.cell.Cell.{Cell}
-use Rattle.expr_model.specs.Rows.{Places, all_rows, leaves_out, left_rows, rows_where}
+use Rattle.row_model.specs.Rows.{Places, all_rows, leaves_out, left_rows, rows_where}
 
 -- one more number
 range_more : (a n k : ℕ) → a + n ≡ k → range_with_len a (suc n) ≡ range_with_len a n ++ k ∷ []

@@ -1,17 +1,17 @@
 ghost use Rattle.std.specs.Prelude.{◌≡◌, ◌≤◌, ◌+◌, ◌⊎◌, ◌==◌, ◌||◌, length, map, replicate, Some, All, IfOk, IfErr};
-ghost use Rattle.arg_bind.specs.Answers.{Answers, IsOwn};
+ghost use Rattle.eval_fail.specs.Answers.{Answers, IsOwn};
 ghost use Rattle.dt_base.specs.declared.limits.TheConstants.{MAX_ROWS};
 ghost use Rattle.dt_model.specs.Vector.{cell_at};
-ghost use Rattle.expr_model.specs.Lengths.{common_length, fitting, longest, repeated};
+ghost use Rattle.row_model.specs.Lengths.{common_length, fitting, longest, repeated};
 ghost use Rattle.na_words.specs.Shown.{vector_from};
-ghost use Rattle.vec_funcs.specs.Valued.{vector_in};
+ghost use Rattle.valued.specs.Valued.{vector_in};
 
-use arg_bind::{EvalFail, stop_length};
 use dt_base::Steps;
+use eval_fail::{EvalFail, stop_length};
 use na_vector::Column;
 use std::alloc::{AllocError, Global};
 use std::sync::ledger::Ledger;
-use vec_funcs::Valued;
+use valued::Valued;
 
 /// The greatest length; of nothing 0.
 fn longest(values: &[Valued]) -> usize

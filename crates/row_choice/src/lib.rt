@@ -4,8 +4,8 @@
 //! - `common_length`: the length that several vectors come to, each of 1 or of the longest.
 //! - `repeated`: a column of one cell brought to a length.
 //!
-//! It stands on the words of columns, `na_words`, and on `arg_bind` for faults; brackets stand on it.
-//! Each answer is that of its definition in `expr_model`, Rows and Lengths, and the faults come exactly
+//! It stands on the words of columns, `na_words`, and on `eval_fail` for faults; brackets stand on it.
+//! Each answer is that of its definition in `row_model`, Rows and Lengths, and the faults come exactly
 //! where they come there. Each is linear in the rows and the cells, and its loops run over stored words.
 #![tactic(auto)]
 
@@ -20,6 +20,3 @@ mod truths;
 pub use lengths::{common_length, repeated};
 pub use listing::all_rows;
 pub use rows::chosen_rows;
-
-#[cfg(test)]
-mod tests;

@@ -1,7 +1,7 @@
 ghost use Rattle.std.specs.Prelude.{◌≡◌, ◌≤◌, ◌<◌, ◌++◌, ◌∷◌, [], Some, All, length, IfOk, OnOk, if◌then◌else◌};
 ghost use Rattle.dt_base.specs.declared.limits.TheConstants.{MAX_ROWS};
 ghost use Rattle.dt_model.specs.Vector.{IsWithin};
-ghost use Rattle.expr_model.specs.Rows.{all_rows};
+ghost use Rattle.row_model.specs.Rows.{all_rows};
 
 use std::alloc::{AllocError, Global};
 

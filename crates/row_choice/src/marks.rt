@@ -1,7 +1,7 @@
 ghost use Rattle.std.specs.Prelude.{ℕ, ◌≡◌, ◌<◌, ◌≤◌, ◌==◌, ◌||◌, false, not, length, map, slice_index_or, IfOk};
 ghost use Rattle.std.specs.List.{list_any};
 ghost use Rattle.dt_base.specs.declared.limits.TheConstants.{MAX_ROWS};
-ghost use Rattle.expr_model.specs.Rows.{leaves_out, left_rows, rows_where};
+ghost use Rattle.row_model.specs.Rows.{leaves_out, left_rows, rows_where};
 ghost use Rattle.na_vector.specs.Words.{int_cell};
 
 use crate::listing::push_if;

@@ -1,5 +1,5 @@
 ghost use Rattle.std.specs.Prelude.{◌≡◌};
-ghost use Rattle.expr_model.specs.Rows.{is_below_or_zero, is_below_zero};
+ghost use Rattle.row_model.specs.Rows.{is_below_or_zero, is_below_zero};
 ghost use Rattle.na_vector.specs.Words.{int_cell};
 ghost use Rattle.row_choice.specs.Places.{place_cell};
 

@@ -1,14 +1,14 @@
 ghost use Rattle.std.specs.Prelude.{◌≡◌, ◌≤◌, ◌++◌, nat_lt, Some, None, map, IfOk, IfErr, OnOk, if◌then◌else◌};
 ghost use Rattle.std.specs.List.{list_any, list_all};
-ghost use Rattle.arg_bind.specs.Answers.{AnswersAs, IsOwn};
+ghost use Rattle.eval_fail.specs.Answers.{AnswersAs, IsOwn};
 ghost use Rattle.dt_base.specs.declared.limits.TheConstants.{MAX_ROWS};
-ghost use Rattle.expr_model.specs.Rows.{by_place, is_below_or_zero, is_below_zero, named_row, named_rows};
+ghost use Rattle.row_model.specs.Rows.{by_place, is_below_or_zero, is_below_zero, named_row, named_rows};
 ghost use Rattle.na_vector.specs.Words.{int_cell};
 
 use crate::marks::left_rows;
 use crate::place::{Place, is_below_or_zero, is_below_zero, place_of};
-use arg_bind::{EvalFail, stop};
 use dt_base::Code;
+use eval_fail::{EvalFail, stop};
 use std::alloc::{AllocError, Global};
 
 /// Whether some word is negative.

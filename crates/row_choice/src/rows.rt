@@ -1,14 +1,14 @@
 ghost use Rattle.std.specs.Prelude.{◌≡◌, ◌≤◌, ◌+◌, All, length, map, IfOk, IfErr};
-ghost use Rattle.arg_bind.specs.Answers.{AnswersAs, IsOwn};
+ghost use Rattle.eval_fail.specs.Answers.{AnswersAs, IsOwn};
 ghost use Rattle.dt_base.specs.declared.limits.TheConstants.{MAX_ROWS};
 ghost use Rattle.dt_model.specs.Vector.{IsWithin};
-ghost use Rattle.expr_model.specs.Rows.{chosen};
+ghost use Rattle.row_model.specs.Rows.{chosen};
 ghost use Rattle.na_words.specs.Shown.{IsShown, shown};
 
 use crate::places::by_place;
 use crate::truths::by_truth;
-use arg_bind::{EvalFail, stop_unbuilt};
 use dt_base::Steps;
+use eval_fail::{EvalFail, stop_unbuilt};
 use na_vector::Column;
 use na_words::{Words, words_of};
 use std::alloc::Global;

@@ -1,11 +1,11 @@
 ghost use Rattle.std.specs.Prelude.{◌≡◌, ◌≤◌, map, length, IfOk, IfErr};
-ghost use Rattle.arg_bind.specs.Answers.{AnswersAs, IsOwn};
+ghost use Rattle.eval_fail.specs.Answers.{AnswersAs, IsOwn};
 ghost use Rattle.dt_base.specs.declared.limits.TheConstants.{MAX_ROWS};
-ghost use Rattle.expr_model.specs.Rows.{all_or_none, by_truth, is_true, true_rows};
+ghost use Rattle.row_model.specs.Rows.{all_or_none, by_truth, is_true, true_rows};
 ghost use Rattle.na_vector.specs.Words.{lgl_cell};
 
 use crate::listing::{all_rows, push_if};
-use arg_bind::{EvalFail, stop_length};
+use eval_fail::{EvalFail, stop_length};
 use std::alloc::{AllocError, Global};
 
 /// Whether the word is TRUE: NA is not.

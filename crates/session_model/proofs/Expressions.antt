@@ -19,7 +19,7 @@ use Rattle.dt_tree.specs.declared.tree.BinOp.TheVariants.{Arith, In, Range}
 use Rattle.dt_tree.specs.declared.tree.Expr.TheOpen.{Expr-F}
 use Rattle.vector_model.specs.Functions.{Valued, plain, warned}
 use Rattle.expr_model.specs.Functions.{type_of, value_of}
-use Rattle.expr_model.specs.Operators.{length_fault}
+use Rattle.vector_model.specs.Faults.{length_fault}
 use Rattle.expr_model.specs.Surroundings.{Var, Table, Vector, Env}
 use Rattle.session_model.specs.Meaning.{expr_step}
 use Rattle.session_model.specs.Meanings.{Meaning, ArgMeaning, TailMeaning}

@@ -15,9 +15,8 @@ use Rattle.dt_model.specs.Table.{PlainTable, ColumnHead}
 use Rattle.dt_tree.specs.declared.tree.BinOp.{BinOp}
 use Rattle.dt_tree.specs.declared.tree.BinOp.TheVariants.{Arith}
 use Rattle.dt_tree.specs.declared.tree.Expr.TheOpen.{Expr-F}
-use Rattle.expr_model.specs.Operators.{length_fault}
+use Rattle.vector_model.specs.Faults.{length_fault, unbuilt}
 use Rattle.expr_model.specs.Surroundings.{Var, Table, Vector}
-use Rattle.expr_model.specs.Unbuilt.{unbuilt}
 use Rattle.session_model.specs.Meaning.{expr_step}
 use Rattle.session_model.specs.Meanings.{Answer, Meaning, ArgMeaning, TailMeaning, Computes, BracketMeaning}
 use Rattle.session_model.specs.Meanings as gives

@@ -21,7 +21,7 @@ use Rattle.func_table.specs.Calls.{word_of, kind_of}
 use Rattle.run_model.specs.Csv.{written_csv}
 use Rattle.vector_model.specs.Then.{then_do}
 use Rattle.expr_model.specs.Surroundings.{outside}
-use Rattle.expr_model.specs.Unbuilt.{unbuilt}
+use Rattle.vector_model.specs.Faults.{unbuilt}
 use Rattle.session_model.specs.Binding.{bound, place_of, is_free}
 use Rattle.session_model.specs.Columns.{arguments_answer}
 use Rattle.session_model.specs.Effect.{Effect, Remove, prints, writes, changes, does_nothing}

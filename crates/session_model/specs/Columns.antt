@@ -20,7 +20,7 @@ use Rattle.func_table.specs.declared.special.Special.TheVariants as special
 use Rattle.func_table.specs.Special.{special_of}
 use Rattle.vector_model.specs.Functions.{Valued}
 use Rattle.vector_model.specs.Then.{then_do}
-use Rattle.expr_model.specs.Lengths.{common_length, repeated}
+use Rattle.row_model.specs.Lengths.{common_length, repeated}
 use Rattle.expr_model.specs.Surroundings.{Env, column_named}
 use Rattle.session_model.specs.Expression.{all_warns, checked_value, each, each_argument, vector_in, warns_in}
 use Rattle.session_model.specs.Form.{Form, BareName}

@@ -24,7 +24,7 @@ use Rattle.dt_tree.specs.declared.tree.Stmt.{Stmt}
 use Rattle.run_model.specs.Reading.{IsReadAs, IsRefused}
 use Rattle.session_model.specs.Effect.{Effect, changed}
 use Rattle.session_model.specs.Statement.{step}
-use Rattle.session_model.specs.Value.{number_fault}
+use Rattle.vector_model.specs.Faults.{number_fault}
 use Rattle.session_model.specs.World.{World, Pieces, pieces_of, fault_pieces, after, Parted, look}
 
 -- what a statement gives

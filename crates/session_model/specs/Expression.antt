@@ -40,7 +40,7 @@ use Rattle.vector_model.specs.Functions.{Valued}
 use Rattle.expr_model.specs.Functions.{with_warns, type_of, value_of, description_type, description_of}
 use Rattle.expr_model.specs.Operators.{tail_type, tail_value, sign_value}
 use Rattle.expr_model.specs.Surroundings.{Env, var_table}
-use Rattle.expr_model.specs.Unbuilt.{unbuilt}
+use Rattle.vector_model.specs.Faults.{unbuilt}
 
 -- a vector as a value, without warnings
 abbrev pub quiet : Result Vector Fault → Result Valued Fault

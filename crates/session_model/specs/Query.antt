@@ -19,13 +19,14 @@ use Rattle.dt_model.specs.State.{State, Bound}
 use Rattle.dt_model.specs.State.{Table as NumberedTable, Vector as BoundVector}
 use Rattle.dt_model.specs.Table.{PlainTable}
 use Rattle.func_table.specs.declared.special.Special.{Special}
+use Rattle.func_table.specs.declared.special.Special.TheVariants as special
 use Rattle.func_table.specs.Special.{special_of, is_bracket_argument}
 use Rattle.vector_model.specs.Functions.{Valued}
 use Rattle.vector_model.specs.Then.{then_do}
-use Rattle.expr_model.specs.Rows.{Places, all_rows, chosen}
+use Rattle.row_model.specs.Rows.{Places, all_rows, chosen}
 use Rattle.expr_model.specs.Surroundings.{Env, Var, Vars, columns_in, columns_at, in_rows}
 use Rattle.expr_model.specs.Surroundings as bound
-use Rattle.expr_model.specs.Unbuilt.{unbuilt}
+use Rattle.vector_model.specs.Faults.{unbuilt}
 use Rattle.session_model.specs.Binding.{word_in}
 use Rattle.session_model.specs.Columns.{gives_columns}
 use Rattle.session_model.specs.Expression.{checked_value, quiet}
@@ -52,9 +53,13 @@ i_variable name None = Err (fault E02 name)
 i_variable name (Some (bound.Table t)) = Err unbuilt
 i_variable name (Some (bound.Vector v)) = quiet (Ok v)
 
--- a bare name that is no special one is looked up among the script's names alone
+-- `.N` is the number of rows; any other bare name is looked up among the script's names alone, where no
+-- special name stands
 abbrev pub i_name : Meaning → Env → List ℕ → Option Special → Result Valued Fault
-i_name m s name (Some p) = checked_value m s
+i_name m s name (Some special.Count) = checked_value m s
+i_name m s name (Some special.Places) = Err (fault E02 name)
+i_name m s name (Some special.Group) = Err (fault E02 name)
+i_name m s name (Some special.Rows) = Err (fault E02 name)
 i_name m s name None = i_variable name (s.vars name)
 
 -- `!` before the name of a table is a join that is turned round, which is not served

@@ -13,7 +13,7 @@ use Rattle.dt_tree.specs.declared.tree.Stmt.{Stmt}
 use Rattle.vector_model.specs.Then.{then_do}
 use Rattle.session_model.specs.Value.{Value, Numbered, New, Cells, Null, Given, Look, Scene, printed_value}
 use Rattle.session_model.specs.Effect.{Effect, Change, BindNew, Bind, prints, changes_with}
-use Rattle.expr_model.specs.Unbuilt.{unbuilt}
+use Rattle.vector_model.specs.Faults.{unbuilt}
 use Rattle.session_model.specs.Meaning.{meaning}
 use Rattle.session_model.specs.Meanings.{Meaning}
 

@@ -14,7 +14,6 @@ use Rattle.std.specs.FinMap as finite
 use Rattle.dt_base.specs.declared.cell.Cell.{Cell}
 use Rattle.dt_base.specs.declared.cell.ColType.{ColType}
 use Rattle.dt_base.specs.declared.fault.Fault.{Fault}
-use Rattle.dt_base.specs.declared.fault.Code.{Code}
 use Rattle.dt_base.specs.declared.fault.Code.TheVariants.{E02, E04, E07, E08, E09, E12, E15, E16, E17, E18, E19}
 use Rattle.dt_base.specs.Fault.{fault}
 use Rattle.dt_base.specs.declared.limits.TheConstants.{MAX_CELLS, MAX_COLUMNS, MAX_FILE_BYTES, MAX_ROWS, SPARE_COLUMNS}
@@ -27,6 +26,7 @@ use Rattle.dt_model.specs.State.{State, Bound}
 use Rattle.dt_model.specs.State.{Table as NumberedTable, Vector as BoundVector}
 use Rattle.run_model.specs.Csv.{read_csv, FileFault, Ragged, NotUtf8, TooManyColumns, TooManyRows}
 use Rattle.run_model.specs.Printed.{printed_table, printed_vector, null_text}
+use Rattle.vector_model.specs.Faults.{number_fault}
 use Rattle.vector_model.specs.Then.{then_do}
 
 -- a table that has a number, a new table, a vector, or NULL
@@ -63,10 +63,6 @@ bound_value name (Some (NumberedTable n)) = gives_value (Numbered n)
 bound_value name (Some (BoundVector v)) = gives_value (Cells v)
 
 -- ---- New tables
-
--- a fault that tells a number
-abbrev pub number_fault : Code → ℕ → Fault
-number_fault code n = record { code = code; what = []; n = n; m = 0 }
 
 -- the fault of a limit that a new table passes
 abbrev pub limit_fault : TableLimit → Fault

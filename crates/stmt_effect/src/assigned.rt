@@ -1,5 +1,5 @@
 ghost use Rattle.std.specs.Prelude.{IfErr, ◌≡◌, IfOk};
-ghost use Rattle.arg_bind.specs.Answers.{AnswersAs, IsOwn};
+ghost use Rattle.eval_fail.specs.Answers.{AnswersAs, IsOwn};
 ghost use Rattle.session_model.specs.Statement.{value_change, assigned};
 ghost use Rattle.session_model.specs.Value as value;
 ghost use Rattle.stmt_effect.specs.Effects.{plain_change, plain_effect, FitsIn};
@@ -7,8 +7,8 @@ ghost use Rattle.stmt_value.specs.Values.{plain_value, plain_given, IsValueIn};
 ghost use Rattle.table_heap.specs.Seen.{HeapSeen};
 
 use crate::effect::{Change, Effect};
-use arg_bind::{EvalFail, stop};
 use dt_base::{Code, Steps, Text};
+use eval_fail::{EvalFail, stop};
 use na_vector::Column;
 use std::alloc::Global;
 use std::sync::ledger::Ledger;

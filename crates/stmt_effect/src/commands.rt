@@ -1,6 +1,6 @@
 ghost use Rattle.std.specs.Prelude.{◌≡◌, ◌≤◌, IfOk, IfErr, IsSome, IsErrOf, Some, cond, map};
 ghost use Rattle.std.specs.FinMap as finite;
-ghost use Rattle.arg_bind.specs.Answers.{AnswersAs, IsNoMemory, IsOwn};
+ghost use Rattle.eval_fail.specs.Answers.{AnswersAs, IsNoMemory, IsOwn};
 ghost use Rattle.dt_world.specs.Causes.{Rose};
 ghost use Rattle.session_model.specs.Calls.{argument, package_named, known_package, bare_name, removed_name, written_given, command};
 ghost use Rattle.session_model.specs.Expression.{names_in};
@@ -18,12 +18,13 @@ ghost use Rattle.table_heap.specs.State.{state_of};
 
 use crate::effect::{Change, Effect, Written};
 use crate::printed::printed;
-use arg_bind::{EvalFail, bare_name, next, stop};
+use arg_bind::{bare_name, next};
 use csv_edge::write_table;
 use dt_base::{Code, Steps, Text, Warns};
 use dt_table::Table;
 use dt_tree::{Arg, Expr};
 use dt_world::Files;
+use eval_fail::{EvalFail, stop};
 use func_table::{Formal, Func};
 use std::alloc::{AllocError, Global};
 use std::sync::ledger::Ledger;

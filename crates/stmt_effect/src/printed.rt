@@ -1,5 +1,5 @@
 ghost use Rattle.std.specs.Prelude.{IfErr, ◌≡◌, IfOk};
-ghost use Rattle.arg_bind.specs.Answers.{AnswersAs, IsOwn};
+ghost use Rattle.eval_fail.specs.Answers.{AnswersAs, IsOwn};
 ghost use Rattle.session_model.specs.Calls.{printed_given};
 ghost use Rattle.session_model.specs.Statement.{bare};
 ghost use Rattle.session_model.specs.Value.{printed_value};
@@ -8,9 +8,9 @@ ghost use Rattle.stmt_value.specs.Values.{plain_value, plain_given, IsValueIn};
 ghost use Rattle.table_heap.specs.State.{state_of};
 
 use crate::effect::Effect;
-use arg_bind::{EvalFail, stop};
 use dt_base::{Code, Steps};
 use dt_print::{null_text, table_text, vector_text};
+use eval_fail::{EvalFail, stop};
 use std::alloc::{AllocError, Global};
 use std::sync::ledger::Ledger;
 use stmt_value::{Given, Value};

@@ -1,15 +1,15 @@
 -- The argument at a place.
 use Rattle.std.proofs.Common.{◌≡◌, ◌<◌, ◌≤◌, ℕ, List, Option, Some, Result, Ok, Err, length, map, slice_index_or, option_map, refl, ap, ◌∙◌}
 use Rattle.std.proofs.lemmas.Option.{slice_get-map, slice_get_read, slice_get_past}
-use Rattle.arg_bind.specs.Answers.{AnswersAs}
-use Rattle.arg_bind.specs.Answers as eval
-use Rattle.arg_bind.specs.declared.fail.EvalFail.{EvalFail}
-use Rattle.arg_bind.specs.declared.fail.EvalFail.TheVariants as eval_fail
+use Rattle.eval_fail.specs.Answers.{AnswersAs}
+use Rattle.eval_fail.specs.Answers as eval
+use Rattle.eval_fail.specs.declared.fail.EvalFail.{EvalFail}
+use Rattle.eval_fail.specs.declared.fail.EvalFail.TheVariants as eval_fail
 use Rattle.dt_base.specs.declared.fault.Fault.{Fault}
 use Rattle.std.specs.Borrow.{Bor}
 use Rattle.dt_tree.specs.declared.tree.Expr.{Expr}
 use Rattle.dt_tree.specs.declared.tree.Arg.{Arg}
-use Rattle.expr_model.specs.Unbuilt.{unbuilt}
+use Rattle.vector_model.specs.Faults.{unbuilt}
 use Rattle.session_model.specs.Calls.{there}
 use Rattle.session_model.specs.Expression.{arg_at}
 use Rattle.session_model.specs.Meaning.{meaning, arg_meaning}

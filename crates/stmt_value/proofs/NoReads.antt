@@ -1,8 +1,8 @@
 -- What a call answers that may read files and has read none.
 use Rattle.std.proofs.Common.{◌≡◌, Result, Ok, Err, subst, sym}
-use Rattle.arg_bind.specs.Answers.{AnswersAs}
-use Rattle.arg_bind.specs.declared.fail.EvalFail.{EvalFail}
-use Rattle.arg_bind.specs.declared.fail.EvalFail.TheVariants as eval
+use Rattle.eval_fail.specs.Answers.{AnswersAs}
+use Rattle.eval_fail.specs.declared.fail.EvalFail.{EvalFail}
+use Rattle.eval_fail.specs.declared.fail.EvalFail.TheVariants as eval
 use Rattle.dt_base.specs.declared.fault.Fault.{Fault}
 use Rattle.stmt_value.specs.Answers.{Gives}
 use Rattle.stmt_value.specs.Reads.{unread}

@@ -1,16 +1,16 @@
 -- Why a value is not given, where no file is read.
 --   widened e          the same of a call that may read files
 --   IsFileStop e r      r is the fault of a file that is refused by e
-use Rattle.arg_bind.specs.declared.fail.EvalFail.{EvalFail}
-use Rattle.arg_bind.specs.declared.fail.EvalFail.TheVariants as eval
+use Rattle.eval_fail.specs.declared.fail.EvalFail.{EvalFail}
+use Rattle.eval_fail.specs.declared.fail.EvalFail.TheVariants as eval
 use Rattle.std.specs.Prelude.{[]}
-use Rattle.arg_bind.specs.Answers.{IsStop, IsNoMemory}
+use Rattle.eval_fail.specs.Answers.{IsStop, IsNoMemory}
 use Rattle.dt_base.specs.Fault.{fault}
 use Rattle.dt_base.specs.declared.fault.Code.TheVariants.{E07, E09, E17, E18}
 use Rattle.csv_edge.specs.declared.fail.CsvFail.{CsvFail}
 use Rattle.csv_edge.specs.declared.fail.CsvFail.TheVariants as file
 use Rattle.dt_base.specs.declared.limits.TheConstants.{MAX_COLUMNS}
-use Rattle.session_model.specs.Value.{number_fault}
+use Rattle.vector_model.specs.Faults.{number_fault}
 use Rattle.stmt_value.specs.declared.fail.ValueFail.{ValueFail}
 use Rattle.stmt_value.specs.declared.fail.ValueFail.TheVariants.{Stop, NoMemory}
 

@@ -5,7 +5,7 @@
 --                       and its answer blames a file only where that was counted
 --   unread r            the answer r of a call that reads none
 use Rattle.std.specs.Prelude.{◌≡◌, ◌≤◌, ℕ, Option, Result, Ok, Err, IfErr, IsErrOf}
-use Rattle.arg_bind.specs.declared.fail.EvalFail.{EvalFail}
+use Rattle.eval_fail.specs.declared.fail.EvalFail.{EvalFail}
 use Rattle.dt_world.specs.Causes.{Rose}
 use Rattle.dt_world.specs.Told.{FileMap}
 use Rattle.stmt_value.specs.Answers.{Blames}

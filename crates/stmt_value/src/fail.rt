@@ -1,15 +1,15 @@
-ghost use Rattle.expr_model.specs.Unbuilt.{unbuilt};
+ghost use Rattle.vector_model.specs.Faults.{unbuilt};
 ghost use Rattle.std.specs.Prelude.{◌≡◌};
 ghost use Rattle.stmt_value.specs.Answers.{IsStop};
 ghost use Rattle.stmt_value.specs.Reads.{unread};
 ghost use Rattle.dt_base.specs.Fault.{fault};
 
-use arg_bind::{EvalFail, stop_unbuilt};
 use dt_base::{Code, Fault};
+use eval_fail::{EvalFail, stop_unbuilt};
 use std::alloc::{AllocError, Global};
 
 /// Why an expression has no value: its first fault, a read that failed, or want of memory.
-#[derive(Debug, Drop)]
+#[derive(Drop)]
 pub enum ValueFail {
     Stop(Fault),
     ReadFault,

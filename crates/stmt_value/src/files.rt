@@ -4,7 +4,7 @@ ghost use Rattle.session_model.specs.Value.{file_bytes, file_table, records_give
 ghost use Rattle.session_model.specs.World.{look};
 ghost use Rattle.run_model.specs.Csv.{read_csv};
 ghost use Rattle.stmt_value.specs.Answers.{Gives, IsStop};
-ghost use Rattle.arg_bind.specs.Answers.{AnswersAs, IsOwn};
+ghost use Rattle.eval_fail.specs.Answers.{AnswersAs, IsOwn};
 ghost use Rattle.stmt_value.specs.Fails.{IsFileStop};
 ghost use Rattle.stmt_value.specs.Reads.{OnlyReads, files_seen};
 ghost use Rattle.stmt_value.specs.Values.{plain_given, IsValueIn};
@@ -12,11 +12,11 @@ ghost use Rattle.table_heap.specs.Seen.{HeapSeen};
 
 use crate::fail::{ValueFail, refusal, unread};
 use crate::given::{Given, Value};
-use arg_bind::{EvalFail, stop, stop_number};
 use csv_edge::{CsvFail, read_table};
 use dt_base::limits::{MAX_COLUMNS, MAX_FILE_BYTES};
 use dt_base::{Code, Fault, Steps, Text};
 use dt_world::{Files, ReadFail};
+use eval_fail::{EvalFail, stop, stop_number};
 use std::alloc::Global;
 use std::sync::ledger::Ledger;
 

@@ -1,15 +1,15 @@
 ghost use Rattle.std.specs.Prelude.{IfOk, IfErr, None, map};
-ghost use Rattle.arg_bind.specs.Answers.{AnswersAs, IsOwn};
+ghost use Rattle.eval_fail.specs.Answers.{AnswersAs, IsOwn};
 ghost use Rattle.session_model.specs.Calls.{data_table};
 ghost use Rattle.session_model.specs.Meaning.{meaning, arg_meaning, vector_gives};
 ghost use Rattle.stmt_value.specs.Values.{plain_given, scene, IsValueIn};
 
 use crate::given::{Given, Value};
 use crate::vars::{ScriptNames, outside};
-use arg_bind::EvalFail;
 use dt_base::Steps;
 use dt_query::arguments;
 use dt_tree::{Arg, Expr};
+use eval_fail::EvalFail;
 use expr_eval::{check, eval};
 use na_vector::Frame;
 use std::alloc::Global;

@@ -1,7 +1,7 @@
 //! What follows of every heap, as functions that do nothing.
 ghost use Rattle.table_heap.specs.Alike.{Alike};
 ghost use Rattle.table_heap.specs.State.{state_of};
-ghost use Rattle.table_heap.specs.Tables.{HasPlainTables};
+ghost use Rattle.table_heap.specs.Tables.{HasPlainTables, HoldTables};
 
 use crate::Heap;
 
@@ -14,9 +14,17 @@ pub fn alike(heap: &Heap)
 }
 
 /// Each table of a heap's state is a plain table: a cell of its column's type, or NA, for each column
-/// in each row; distinct names; and all within the limits.
+/// in each row; distinct names; all within the limits; and a true key.
 pub fn plain_tables(heap: &Heap)
     ensures { HasPlainTables (state_of heap.now) }
+{
+    heap.hold_tables();
+}
+
+/// Each table of a heap is one: its key is true, and each of its indices has all rows in the order of
+/// its columns.
+pub fn true_tables(heap: &Heap)
+    ensures { HoldTables heap.now.held.slots }
 {
     heap.hold_tables();
 }

@@ -27,6 +27,3 @@ mod tables;
 pub use bound::{Id, Look};
 pub use fails::{AliasFail, NotThere};
 pub use heap::Heap;
-
-#[cfg(test)]
-mod tests;

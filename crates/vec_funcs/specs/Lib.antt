@@ -1,4 +1,3 @@
 pub mod Ranks
 pub mod Sides
-pub mod Valued
 pub mod Words

@@ -3,17 +3,17 @@ ghost use Rattle.dt_base.specs.declared.cell.Cell.TheVariants as is;
 ghost use Rattle.dt_base.specs.declared.limits.TheConstants.{MAX_ROWS};
 ghost use Rattle.dt_model.specs.Vector.{cell_at};
 ghost use Rattle.vector_model.specs.Functions.{first_value, last_value, length_value};
-ghost use Rattle.arg_bind.specs.Answers.{AnswersAs, IsOwn};
+ghost use Rattle.eval_fail.specs.Answers.{AnswersAs, IsOwn};
 ghost use Rattle.na_vector.specs.Words.{int_cell};
 ghost use Rattle.na_words.specs.Shown.{vector_from};
-ghost use Rattle.vec_funcs.specs.Valued.{valued_of};
+ghost use Rattle.valued.specs.Valued.{valued_of};
 
-use crate::valued::{Valued, one};
-use arg_bind::EvalFail;
 use dt_base::{Steps, Warns};
+use eval_fail::EvalFail;
 use na_vector::Column;
 use std::alloc::{AllocError, Global};
 use std::sync::ledger::Ledger;
+use valued::{Valued, one};
 
 /// The column of the one cell at a place.
 fn cell_column<L: Ledger>(

@@ -1,19 +1,19 @@
 ghost use Rattle.std.specs.Prelude.{◌≡◌, ◌+◌, ◌<◌, map, length, IfErr};
 ghost use Rattle.dt_model.specs.Vector.{IsWithin};
 ghost use Rattle.vector_model.specs.Functions.{extreme_type, winner, found_value, extreme_cells, min_value, max_value};
-ghost use Rattle.arg_bind.specs.Answers.{AnswersAs, IsOwn};
+ghost use Rattle.eval_fail.specs.Answers.{AnswersAs, IsOwn};
 ghost use Rattle.na_words.specs.Shown.{shown};
-ghost use Rattle.vec_funcs.specs.Valued.{valued_of};
+ghost use Rattle.valued.specs.Valued.{valued_of};
 
 use crate::missing::meets_na;
 use crate::ranked::Ranked;
-use crate::valued::{Valued, one, one_warned};
-use arg_bind::EvalFail;
 use dt_base::{Steps, Text, Warn, Warns};
+use eval_fail::EvalFail;
 use na_vector::Column;
 use na_words::{Target, Words, words_of};
 use std::alloc::Global;
 use std::sync::ledger::Ledger;
+use valued::{Valued, one, one_warned};
 
 /// Which of two cells is taken.
 #[derive(Clone, Copy)]

@@ -1,19 +1,19 @@
 ghost use Rattle.std.specs.Prelude.{◌≡◌, ◌+◌, ◌≤◌, nat_lt, length, map, All, IfOk, IfErr};
 ghost use Rattle.dt_model.specs.Combine.{common_of, kinds_of, total_length, cells_as};
 ghost use Rattle.vector_model.specs.Combine.{joined};
-ghost use Rattle.arg_bind.specs.Answers.{AnswersAs, IsOwn};
+ghost use Rattle.eval_fail.specs.Answers.{AnswersAs, IsOwn};
 ghost use Rattle.na_words.specs.Shown.{vector_from};
-ghost use Rattle.vec_funcs.specs.Valued.{vector_in, vector_of};
+ghost use Rattle.valued.specs.Valued.{vector_in, vector_of};
 
-use crate::valued::Valued;
-use arg_bind::{EvalFail, stop};
 use dt_base::limits::MAX_ROWS;
 use dt_base::{Code, ColType, Steps, Text};
+use eval_fail::{EvalFail, stop};
 use na_ops::common;
 use na_vector::Column;
 use na_words::{Target, append_words, words_of};
 use std::alloc::{AllocError, Global};
 use std::sync::ledger::Ledger;
+use valued::Valued;
 
 /// The type that is common to all of these.
 fn common_kind(values: &[Valued]) -> ColType

@@ -7,7 +7,7 @@
 //!
 //! Each takes a column and gives a `Valued`, a column of its own with its warnings, or an `EvalFail`:
 //! the function's own fault, or want of memory. It stands on the words of columns, `na_words`, and on
-//! `arg_bind` for faults; what values the calls of a script stands on it.
+//! `eval_fail` and `valued` for its answers; what values the calls of a script stands on it.
 //!
 //! Each answer is that of its definition in `vector_model`, Functions, and the faults come exactly
 //! where they come there. Each is linear in the cells and touches each once, but for `first` and
@@ -21,14 +21,9 @@ mod missing;
 mod ranked;
 mod sums;
 mod truths;
-mod valued;
 
 pub use ends::{first, last, length};
 pub use extremes::{max, min};
 pub use joining::combine;
 pub use sums::sum;
 pub use truths::{all, any};
-pub use valued::{Valued, one};
-
-#[cfg(test)]
-mod tests;

@@ -2,21 +2,21 @@ ghost use Rattle.std.specs.Prelude.{◌≡◌, ◌+◌, ◌^◌, ◌≤◌, ◌+
 ghost use Rattle.dt_base.specs.declared.limits.TheConstants.{MAX_ROWS};
 ghost use Rattle.dt_model.specs.Operations.{number, whole};
 ghost use Rattle.vector_model.specs.Functions.{amount, total, total_value, sum_cells, sum_value};
-ghost use Rattle.arg_bind.specs.Answers.{AnswersAs, IsOwn};
+ghost use Rattle.eval_fail.specs.Answers.{AnswersAs, IsOwn};
 ghost use Rattle.na_vector.specs.Words.{int_cell};
 ghost use Rattle.na_words.specs.Shown.{shown, IsShown};
-ghost use Rattle.vec_funcs.specs.Valued.{valued_of};
+ghost use Rattle.valued.specs.Valued.{valued_of};
 ghost use Rattle.vec_funcs.specs.Words.{IsWord};
 
 use crate::missing::meets_na;
-use crate::valued::{Valued, one};
-use arg_bind::{EvalFail, stop};
 use dt_base::limits::{MAX_INTEGER, NA_WORD};
 use dt_base::{Code, Steps};
+use eval_fail::{EvalFail, stop};
 use na_vector::Column;
 use na_words::{Number, Words, words_of};
 use std::alloc::Global;
 use std::sync::ledger::Ledger;
+use valued::{Valued, one};
 
 /// What an integer adds to a total; NA adds nothing.
 fn amount(word: i64) -> i128

@@ -3,19 +3,19 @@ ghost use Rattle.std.specs.List.{list_any};
 ghost use Rattle.dt_base.specs.declared.cell.Cell.TheVariants as is;
 ghost use Rattle.dt_model.specs.Coercion.{is_na};
 ghost use Rattle.vector_model.specs.Functions.{is_true, is_false, any_cell, all_cell, any_value, all_value};
-ghost use Rattle.arg_bind.specs.Answers.{AnswersAs, IsOwn};
+ghost use Rattle.eval_fail.specs.Answers.{AnswersAs, IsOwn};
 ghost use Rattle.na_vector.specs.Words.{lgl_cell, lgl_vector, IsLglWord};
 ghost use Rattle.na_words.specs.Shown.{shown};
-ghost use Rattle.vec_funcs.specs.Valued.{valued_of};
+ghost use Rattle.valued.specs.Valued.{valued_of};
 
 use crate::missing::has_na;
-use crate::valued::{Valued, one};
-use arg_bind::{EvalFail, stop};
 use dt_base::{Code, Steps};
+use eval_fail::{EvalFail, stop};
 use na_vector::Column;
 use na_words::{NA_LGL, Words, words_of};
 use std::alloc::Global;
 use std::sync::ledger::Ledger;
+use valued::{Valued, one};
 
 fn is_true(word: u8) -> bool
     ensures { result ≡ is_true (lgl_cell word) }

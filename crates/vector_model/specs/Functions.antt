@@ -57,8 +57,9 @@ meets_na na_rm cells = not na_rm && list_any is_na cells
 
 -- logicals and integers have a sum, which is an integer
 abbrev pub sum_type : ColType → Result ColType Fault
+sum_type ty.Lgl = Ok ty.Int
+sum_type ty.Int = Ok ty.Int
 sum_type ty.Chr = Err (fault E04 (codes "sum"))
-sum_type _ = Ok ty.Int
 
 -- what a cell adds to a total: FALSE 0, TRUE 1, an integer itself, and NA nothing
 abbrev pub amount : Option ℤ → ℤ

@@ -1,3 +1,4 @@
 pub mod Combine
+pub mod Faults
 pub mod Functions
 pub mod Then

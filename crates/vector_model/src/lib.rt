@@ -7,6 +7,8 @@
 //! They go together, by the lemma `f_agrees`: a fault of the type is the fault, and an answer has the
 //! type, whatever the cells are.
 //!
+//! `Faults` has the faults that tell numbers, for all that stands above.
+//!
 //! It runs nothing, and stands on `dt_model`, where the other functions on vectors stand: `c`,
 //! `is.na`, `fifelse` and the three conversions.
 #![tactic(auto)]

@@ -1,4 +1,4 @@
 use Rattle.dt_cli.proofs.main.Given as goal
 
-abbrev pub ghosts-run_real : goal.ghosts-run_real
-ghosts-run_real a = record { name = a.blank.name; parts = a.blank.parts }
+abbrev pub ghosts-ended_here : goal.ghosts-ended_here
+ghosts-ended_here a = record { name = a.blank.name; parts = a.blank.parts }

@@ -54,9 +54,9 @@ returns-clause-table c =
     let wide : length c.in_ok-columns.columns.items ≡ length (fields_of c.args.header) = c.in_ok-columns.ensures.count ∙ header in
     let some : 0 < length c.in_ok-columns.columns.items = omega (arith, wide, c.requires.some) in
     let right : rows_fault (length (fields_of c.args.header)) 0 (below c.args.bytes.now) ≡ None = rw header at c.in_ok-columns.ensures.right in
-    reads_as (fields_of c.args.header) (below c.args.bytes.now) c.in_ok-frame.frame c.in_ok-named_table.field-0.0 c.in_ok-named_table.field-0.1
+    reads_as (fields_of c.args.header) (below c.args.bytes.now) c.in_ok-frame.frame c.in_ok-named_table.field-0.0.spare c.in_ok-named_table.field-0.0 c.in_ok-named_table.field-0.1
     c.in_ok-header.ensures.right right
-    (c.in_ok-named_table.ensures.table ∙ ap (λ fields. made (column_names fields) c.in_ok-frame.frame) same)
+    (c.in_ok-named_table.ensures.table ∙ ap (λ fields. made (column_names fields) c.in_ok-frame.frame c.in_ok-named_table.field-0.0.spare) same)
     (c.in_ok-named_table.ensures.warns ∙ ap name_warns same)
     (c.in_ok-frame.ensures.vectors ∙ gathered-vectors (fields_of c.args.header) c.in_ok-columns.columns.items (below c.args.bytes.now) wide c.in_ok-columns.ensures.fields)
     (c.in_ok-frame.ensures.rows ∙ first_length-rows c.in_ok-columns.columns.items (below c.args.bytes.now) c.in_ok-columns.ensures.fields some)

@@ -1,6 +1,6 @@
 use Rattle.std.proofs.Common.{◌∙◌, ap, map, sym}
-use Rattle.expr_model.specs.Lengths.{common_length}
-use Rattle.vec_funcs.specs.Valued.{vector_in}
+use Rattle.row_model.specs.Lengths.{common_length}
+use Rattle.valued.specs.Valued.{vector_in}
 use Rattle.dt_query.proofs.Values.{table_of_values}
 use Rattle.dt_query.proofs.lists.list_table.Goals as goal
 

@@ -1,7 +1,7 @@
 use Rattle.std.proofs.Common.{◌≡◌, map, length}
-use Rattle.expr_model.specs.Lengths.{repeated}
+use Rattle.row_model.specs.Lengths.{repeated}
 use Rattle.na_vector.specs.Frame.{rows_with, vectors_of}
-use Rattle.vec_funcs.specs.declared.valued.Valued.{Valued}
+use Rattle.valued.specs.declared.column.Valued.{Valued}
 use Rattle.dt_query.proofs.lists.repeated_columns.Given as goal
 
 abbrev pub invariant-loop-value : goal.invariant-loop-value

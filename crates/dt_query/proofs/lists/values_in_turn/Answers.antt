@@ -5,7 +5,7 @@ use Rattle.expr_eval.specs.Scope.{env_of}
 use Rattle.session_model.specs.Expression.{checked_value}
 use Rattle.session_model.specs.Meaning.{arg_meaning}
 use Rattle.session_model.specs.Meanings.{ArgMeaning}
-use Rattle.vec_funcs.specs.Valued.{valued_of}
+use Rattle.valued.specs.Valued.{valued_of}
 use Rattle.dt_query.proofs.lists.values_in_turn.Goals as goal
 
 pub loop-a-preserved : goal.loop-a-preserved

@@ -3,7 +3,7 @@ use Rattle.expr_eval.specs.Scope.{env_of}
 use Rattle.session_model.proofs.InOrder.{onto}
 use Rattle.session_model.specs.Expression.{checked_value, each_argument}
 use Rattle.session_model.specs.Meaning.{arg_meaning}
-use Rattle.vec_funcs.specs.Valued.{valued_of}
+use Rattle.valued.specs.Valued.{valued_of}
 use Rattle.dt_query.proofs.lists.values_in_turn.Given as goal
 
 abbrev pub invariant-loop-a : goal.invariant-loop-a

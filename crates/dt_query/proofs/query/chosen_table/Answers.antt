@@ -1,5 +1,5 @@
 use Rattle.std.proofs.Common.{subst}
-use Rattle.arg_bind.specs.Answers.{AnswersAs}
+use Rattle.eval_fail.specs.Answers.{AnswersAs}
 use Rattle.dt_table.specs.Plain.{plain}
 use Rattle.dt_query.proofs.Plain as reading
 use Rattle.dt_query.proofs.query.chosen_table.Goals as goal

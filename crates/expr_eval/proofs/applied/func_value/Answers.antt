@@ -3,9 +3,9 @@ use Rattle.expr_eval.proofs.Given.{more_given, stop_told}
 use Rattle.expr_eval.proofs.applied.func_value.Goals as goal
 use Rattle.expr_eval.specs.Slots.{slot_of}
 use Rattle.expr_model.specs.Functions.{value_of}
-use Rattle.expr_model.specs.Unbuilt.{unbuilt}
+use Rattle.vector_model.specs.Faults.{unbuilt}
 use Rattle.session_model.specs.Expression.{slot_vector}
-use Rattle.vec_funcs.specs.Valued.{valued_of}
+use Rattle.valued.specs.Valued.{valued_of}
 
 -- no other number of arguments is served
 pub returns-in-len4-up-clause-answer : goal.returns-in-len4-up-clause-answer

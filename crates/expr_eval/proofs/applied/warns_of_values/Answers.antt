@@ -1,5 +1,5 @@
 use Rattle.session_model.specs.Expression.{warns_in}
-use Rattle.vec_funcs.specs.Valued.{valued_of}
+use Rattle.valued.specs.Valued.{valued_of}
 use Rattle.expr_eval.proofs.NextOne.{warns_at}
 use Rattle.expr_eval.proofs.applied.warns_of_values.Goals as goal
 

@@ -1,7 +1,7 @@
 use Rattle.std.proofs.Common.{◌≡◌, map, drop}
 use Rattle.dt_base.specs.Warns.{both_warns}
 use Rattle.session_model.specs.Expression.{all_warns, warns_in}
-use Rattle.vec_funcs.specs.Valued.{valued_of}
+use Rattle.valued.specs.Valued.{valued_of}
 use Rattle.expr_eval.proofs.applied.warns_of_values.Given as goal
 
 abbrev pub invariant-loop-v : goal.invariant-loop-v

@@ -1,5 +1,5 @@
 use Rattle.std.proofs.Common.{ℕ, Option, Vec, Global, Err, arith, map, sym, ap, subst, ◌∙◌}
-use Rattle.arg_bind.specs.Answers.{AnswersAs}
+use Rattle.eval_fail.specs.Answers.{AnswersAs}
 use Rattle.dt_base.specs.declared.cell.ColType.{ColType}
 use Rattle.expr_eval.specs.Scope.{env_of}
 use Rattle.expr_eval.proofs.NextOne.{each_at}

@@ -6,8 +6,8 @@ use Rattle.session_model.proofs.InOrder.{in_order}
 use Rattle.session_model.specs.Expression.{arg_at, names_in, slot_at}
 use Rattle.session_model.specs.Meaning.{arg_meaning}
 use Rattle.session_model.specs.Meanings.{ArgMeaning, Meaning}
-use Rattle.vec_funcs.specs.Valued.{valued_of}
-use Rattle.vec_funcs.specs.declared.valued.Valued.{Valued}
+use Rattle.valued.specs.Valued.{valued_of}
+use Rattle.valued.specs.declared.column.Valued.{Valued}
 use Rattle.expr_eval.proofs.NextOne.{each_at}
 use Rattle.expr_eval.proofs.Ends.{no_memory, each_stopped, each_all, formal_at, formal_stopped, formals_all, free_most}
 use Rattle.expr_eval.specs.Slots.{slot_of}

@@ -6,7 +6,7 @@ use Rattle.session_model.proofs.InOrder.{onto}
 use Rattle.session_model.specs.Expression.{names_in, value_tails, each_argument, slots}
 use Rattle.session_model.specs.Meaning.{arg_meaning, tail_meaning}
 use Rattle.session_model.specs.Binding.{places}
-use Rattle.vec_funcs.specs.Valued.{valued_of}
+use Rattle.valued.specs.Valued.{valued_of}
 use Rattle.expr_eval.proofs.values.+eval.Given as goal
 
 abbrev pub invariant-eval_tails-loop-t : goal.invariant-eval_tails-loop-t

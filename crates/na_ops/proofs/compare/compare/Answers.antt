@@ -12,8 +12,14 @@ returns-in-Int-Lgl g c = rw (c.in-Int-Lgl.is-0, c.in-Int-Lgl.is-1) c.over-in-Int
 pub returns-in-Int-Int : goal.returns-in-Int-Int
 returns-in-Int-Int g c = rw (c.in-Int-Int.is-0, c.in-Int-Int.is-1) c.over-in-Int-Int.ensures
 
-pub returns-in-Chr-default : goal.returns-in-Chr-default
-returns-in-Chr-default g c = rw c.in-Chr-default.is-0 c.compare_texts_left.ensures
+pub returns-in-Chr-Lgl : goal.returns-in-Chr-Lgl
+returns-in-Chr-Lgl g c = rw (c.in-Chr-Lgl.is-0, c.in-Chr-Lgl.is-1) (rw c.in-Chr-Lgl.is-1 at c.compare_texts_left.ensures)
+
+pub returns-in-Chr-Int : goal.returns-in-Chr-Int
+returns-in-Chr-Int g c = rw (c.in-Chr-Int.is-0, c.in-Chr-Int.is-1) (rw c.in-Chr-Int.is-1 at c.compare_texts_left-in-Chr-Int.ensures)
+
+pub returns-in-Chr-Chr : goal.returns-in-Chr-Chr
+returns-in-Chr-Chr g c = rw (c.in-Chr-Chr.is-0, c.in-Chr-Chr.is-1) (rw c.in-Chr-Chr.is-1 at c.compare_texts_left-in-Chr-Chr.ensures)
 
 pub returns-in-Lgl-Chr : goal.returns-in-Lgl-Chr
 returns-in-Lgl-Chr g c = rw (c.in-Lgl-Chr.is-0, c.in-Lgl-Chr.is-1) (rw c.in-Lgl-Chr.is-0 at c.compare_texts_right.ensures)

@@ -1,6 +1,6 @@
 use Rattle.std.proofs.Common.{◌≡◌, map, drop}
-use Rattle.expr_model.specs.Lengths.{fitting}
-use Rattle.vec_funcs.specs.Valued.{vector_in}
+use Rattle.row_model.specs.Lengths.{fitting}
+use Rattle.valued.specs.Valued.{vector_in}
 use Rattle.row_choice.proofs.lengths.fitting.Given as goal
 
 -- the vectors so far go with the length

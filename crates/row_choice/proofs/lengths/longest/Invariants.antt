@@ -1,6 +1,6 @@
 use Rattle.std.proofs.Common.{◌≡◌, ◌≤◌, max, map, drop}
-use Rattle.expr_model.specs.Lengths.{longest}
-use Rattle.vec_funcs.specs.Valued.{vector_in}
+use Rattle.row_model.specs.Lengths.{longest}
+use Rattle.valued.specs.Valued.{vector_in}
 use Rattle.row_choice.proofs.lengths.longest.Given as goal
 
 -- the greatest so far, and that of the rest

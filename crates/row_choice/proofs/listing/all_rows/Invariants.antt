@@ -1,5 +1,5 @@
 use Rattle.std.proofs.Common.{◌≡◌}
-use Rattle.expr_model.specs.Rows.{all_rows}
+use Rattle.row_model.specs.Rows.{all_rows}
 use Rattle.row_choice.proofs.listing.all_rows.Given as goal
 
 -- the rows so far

@@ -1,7 +1,7 @@
 use Rattle.std.proofs.Common.{◌≡◌, ◌∙◌, ◌<◌, ℕ, false, length, map, slice_index_or, arith, ap, IfOk, subst}
 use Rattle.std.specs.List.{list_any}
 use Rattle.std.proofs.lemmas.Grind.{common_steps}
-use Rattle.expr_model.specs.Rows.{Places, leaves_out}
+use Rattle.row_model.specs.Rows.{Places, leaves_out}
 use Rattle.na_vector.specs.Words.{int_cell}
 use Rattle.row_choice.proofs.Ranges.{unmarked_left}
 use Rattle.row_choice.proofs.marks.left_rows.Goals as goal

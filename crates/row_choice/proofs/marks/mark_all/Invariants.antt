@@ -1,7 +1,7 @@
 use Rattle.std.proofs.Common.{◌≡◌, ◌<◌, ◌||◌, ℕ, false, length, map, drop}
 use Rattle.std.specs.Prelude.{slice_index_or}
 use Rattle.std.specs.List.{list_any}
-use Rattle.expr_model.specs.Rows.{leaves_out}
+use Rattle.row_model.specs.Rows.{leaves_out}
 use Rattle.na_vector.specs.Words.{int_cell}
 use Rattle.row_choice.proofs.marks.mark_all.Given as goal
 

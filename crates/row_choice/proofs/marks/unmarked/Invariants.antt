@@ -1,6 +1,6 @@
 use Rattle.std.proofs.Common.{◌≡◌, false, not}
 use Rattle.std.specs.Prelude.{slice_index_or}
-use Rattle.expr_model.specs.Rows.{rows_where}
+use Rattle.row_model.specs.Rows.{rows_where}
 use Rattle.row_choice.proofs.marks.unmarked.Given as goal
 
 -- the rows so far without a mark

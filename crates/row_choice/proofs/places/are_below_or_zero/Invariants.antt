@@ -1,6 +1,6 @@
 use Rattle.std.proofs.Common.{◌≡◌, map, drop}
 use Rattle.std.specs.List.{list_all}
-use Rattle.expr_model.specs.Rows.{is_below_or_zero}
+use Rattle.row_model.specs.Rows.{is_below_or_zero}
 use Rattle.na_vector.specs.Words.{int_cell}
 use Rattle.row_choice.proofs.places.are_below_or_zero.Given as goal
 

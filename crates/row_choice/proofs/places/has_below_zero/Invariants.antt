@@ -1,6 +1,6 @@
 use Rattle.std.proofs.Common.{◌≡◌, map, drop}
 use Rattle.std.specs.List.{list_any}
-use Rattle.expr_model.specs.Rows.{is_below_zero}
+use Rattle.row_model.specs.Rows.{is_below_zero}
 use Rattle.na_vector.specs.Words.{int_cell}
 use Rattle.row_choice.proofs.places.has_below_zero.Given as goal
 

@@ -1,5 +1,5 @@
 use Rattle.std.proofs.Common.{◌≡◌, ◌++◌, map, drop}
-use Rattle.expr_model.specs.Rows.{named_rows}
+use Rattle.row_model.specs.Rows.{named_rows}
 use Rattle.na_vector.specs.Words.{int_cell}
 use Rattle.row_choice.proofs.places.named_rows.Given as goal
 

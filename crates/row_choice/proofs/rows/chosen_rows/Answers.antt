@@ -1,7 +1,7 @@
 use Rattle.std.proofs.Common.{subst}
-use Rattle.arg_bind.specs.Answers.{AnswersAs}
+use Rattle.eval_fail.specs.Answers.{AnswersAs}
 use Rattle.dt_model.specs.Vector.{Vector}
-use Rattle.expr_model.specs.Rows.{chosen}
+use Rattle.row_model.specs.Rows.{chosen}
 use Rattle.row_choice.proofs.Chosen.{answered_short, answered_within}
 use Rattle.row_choice.proofs.rows.chosen_rows.Goals as goal
 

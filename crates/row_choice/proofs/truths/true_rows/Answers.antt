@@ -2,7 +2,7 @@ use Rattle.std.proofs.Common.{◌≡◌, ◌∙◌, ℕ, Bool, length, map, arit
 use Rattle.std.proofs.lemmas.Grind.{common_steps}
 use Rattle.std.proofs.lemmas.List.{length-map}
 use Rattle.dt_model.specs.Vector.{cell_at}
-use Rattle.expr_model.specs.Rows.{is_true, rows_where}
+use Rattle.row_model.specs.Rows.{is_true, rows_where}
 use Rattle.na_vector.specs.Words.{lgl_cell}
 use Rattle.row_choice.proofs.Ranges.{where_more}
 use Rattle.row_choice.proofs.truths.true_rows.Goals as goal

@@ -1,6 +1,6 @@
 use Rattle.std.proofs.Common.{◌≡◌, map}
 use Rattle.dt_model.specs.Vector.{cell_at}
-use Rattle.expr_model.specs.Rows.{is_true, rows_where}
+use Rattle.row_model.specs.Rows.{is_true, rows_where}
 use Rattle.na_vector.specs.Words.{lgl_cell}
 use Rattle.row_choice.proofs.truths.true_rows.Given as goal
 

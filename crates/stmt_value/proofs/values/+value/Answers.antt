@@ -9,7 +9,7 @@ use Rattle.stmt_value.specs.Answers.{Gives}
 use Rattle.stmt_value.specs.Calls.{call_or}
 use Rattle.stmt_value.specs.Values.{plain_given, scene}
 use Rattle.vector_model.specs.Then.{then_do}
-use Rattle.arg_bind.specs.Answers.{AnswersAs}
+use Rattle.eval_fail.specs.Answers.{AnswersAs}
 use Rattle.session_model.specs.Value as model
 use Rattle.stmt_value.proofs.values.+value.Goals as goal
 

@@ -1,8 +1,8 @@
 use Rattle.std.proofs.Common.{subst}
 use Rattle.dt_model.specs.Vector.{Vector}
 use Rattle.vector_model.specs.Functions.{min_value}
-use Rattle.arg_bind.specs.Answers.{AnswersAs}
-use Rattle.vec_funcs.specs.Valued.{valued_of}
+use Rattle.eval_fail.specs.Answers.{AnswersAs}
+use Rattle.valued.specs.Valued.{valued_of}
 use Rattle.vec_funcs.proofs.extremes.min.Goals as goal
 
 -- the words are those of the column

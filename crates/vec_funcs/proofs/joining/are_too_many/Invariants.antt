@@ -1,6 +1,6 @@
 use Rattle.std.proofs.Common.{◌≡◌, ◌+◌, map, drop}
 use Rattle.dt_model.specs.Combine.{total_length}
-use Rattle.vec_funcs.specs.Valued.{vector_in}
+use Rattle.valued.specs.Valued.{vector_in}
 use Rattle.vec_funcs.proofs.joining.are_too_many.Given as goal
 
 -- what is left of the limit and what is left of the cells differ by as much as at first

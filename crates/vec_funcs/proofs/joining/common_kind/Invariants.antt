@@ -1,6 +1,6 @@
 use Rattle.std.proofs.Common.{◌≡◌, map, drop}
 use Rattle.dt_model.specs.Combine.{common_from, common_of, kinds_of}
-use Rattle.vec_funcs.specs.Valued.{vector_in}
+use Rattle.valued.specs.Valued.{vector_in}
 use Rattle.vec_funcs.proofs.joining.common_kind.Given as goal
 
 abbrev pub invariant-loop-v : goal.invariant-loop-v

@@ -1,6 +1,6 @@
 use Rattle.std.proofs.Common.{◌≡◌, ◌+◌, ◌++◌, ◌≤◌, All, length, map, drop}
 use Rattle.dt_model.specs.Combine.{total_length, cells_as}
-use Rattle.vec_funcs.specs.Valued.{vector_in}
+use Rattle.valued.specs.Valued.{vector_in}
 use Rattle.vec_funcs.proofs.joining.words_as.Given as goal
 
 -- what is there and the cells of the rest are all cells

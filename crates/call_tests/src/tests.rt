@@ -1,0 +1,10 @@
+mod cases;
+mod columns;
+mod groups;
+mod names;
+mod orders;
+mod printing;
+mod runs;
+mod sessions;
+mod surroundings;
+mod tables;

@@ -1,5 +1,0 @@
-use Rattle.dt_cli.proofs.Refusals.{refusal_checked}
-use Rattle.dt_cli.proofs.check.check_script.Goals as goal
-
-pub returns-in-Err : goal.returns-in-Err
-returns-in-Err g c = rw c.status_for.ensures (refusal_checked c.args.bytes.now c.in-Err.fail _ _ _ c.tell_refusal-ended.result c.in-Err.ensures.fault c.tell_refusal-ended.ensures.write c.tell_refusal-ended.ensures.end)

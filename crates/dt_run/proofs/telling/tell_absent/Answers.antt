@@ -1,0 +1,11 @@
+use Rattle.std.proofs.Common.{subst}
+use Rattle.dt_base.specs.declared.fault.Fault.{Fault}
+use Rattle.dt_world.specs.Causes.{Rose}
+use Rattle.run_model.specs.Messages.{printed_fault}
+use Rattle.dt_run.specs.Steps.{PutAs}
+use Rattle.dt_run.specs.declared.status.Status.TheVariants.{Stopped}
+use Rattle.dt_run.proofs.telling.tell_absent.Goals as goal
+
+pub returns-in-Ok : goal.returns-in-Ok
+returns-in-Ok g c =
+    subst (λ (f : Fault). PutAs Stopped (g.E.Sink.bytes c.args.err.now) (g.E.Sink.bytes c.tell.new.err) (printed_fault 0 f) (Rose (g.E.Sink.faults c.args.err.now) (g.E.Sink.faults c.tell.new.err)) c.tell.result) c.in-Ok.ensures c.tell.ensures

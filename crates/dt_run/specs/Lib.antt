@@ -1,0 +1,5 @@
+pub mod Exit
+pub mod Given
+pub mod Run
+pub mod Steps
+pub mod Words

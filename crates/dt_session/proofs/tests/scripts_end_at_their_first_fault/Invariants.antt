@@ -1,4 +1,0 @@
-use Rattle.dt_session.proofs.tests.scripts_end_at_their_first_fault.Given as goal
-
-abbrev pub ghosts-check_stop : goal.ghosts-check_stop
-ghosts-check_stop g a = record { name = a.blank.name; parts = a.blank.parts }

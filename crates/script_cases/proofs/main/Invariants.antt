@@ -1,0 +1,4 @@
+use Rattle.script_cases.proofs.main.Given as goal
+
+abbrev pub ghosts-run_files : goal.ghosts-run_files
+ghosts-run_files a = record { name = a.blank.name; parts = a.blank.parts }
