@@ -6,9 +6,9 @@
 //!
 //! It stands on `dt_tokens` for the tokens, on `dt_grammar` for the lemmas of the grammar, and on
 //! `dt_misplaced` for the assignments in wrong places. The grammar takes the tokens one by one,
-//! with a stack of what has been begun, and never goes back. Six tokens end all operators of what has
-//! come, `End`: `endings` says what each makes of the innermost frame, and `empties` where nothing
-//! has come in it. A frame, an expression or a state that is let go is dropped by a call,
+//! with a stack of what has been begun, and never goes back. Six tokens end all operators of what
+//! has come, `End`: `endings` says what each makes of the innermost frame, and `empties` where
+//! nothing has come in it. A frame, an expression or a state that is let go is dropped by a call,
 //! `drop(..)`: else the proof has a case for each of its forms, and for two of them one for each
 //! pair.
 //!
