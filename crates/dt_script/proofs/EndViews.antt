@@ -1,14 +1,14 @@
 -- The machine's steps at a token that ends all operators, from what it makes of the innermost frame.
-use Rattle.std.proofs.Common.{◌≡◌, ◌≢◌, ℕ, Bool, true, false, cond, List, [], ◌∷◌, Option, Some, None, option_map, map, refl, sym, ap, ◌∙◌}
+use Rattle.std.proofs.Common.{◌≡◌, ◌≢◌, Bool, true, false, cond, List, [], ◌∷◌, Option, Some, None, option_map, map, refl, ap}
 use Rattle.dt_tree.specs.declared.tree.Arg.{Arg}
-use Rattle.run_model.specs.GrammarTrees.{Word, Tree, Args, NoArgs, MoreArgs, Absent, Stmt}
+use Rattle.run_model.specs.GrammarTrees.{Word, Tree, Args, NoArgs, MoreArgs, Absent}
 use Rattle.run_model.specs.Grammar.{Filled, takes_unnamed, is_j, with_item}
 use Rattle.run_model.specs.TreeView.{ArgTree, args_from, arg_of, args_of}
 use Rattle.dt_grammar.specs.Machine as model
 use Rattle.dt_grammar.specs.Machine.{Head, Frame, Front, Left, InParen, InCall, InItem, InNamed, InAssign, InStmt, State, item_from, query, item, names_of, last_stmt}
 use Rattle.dt_script.specs.declared.frames.End.{End}
 use Rattle.dt_script.specs.declared.frames.End.TheVariants as end
-use Rattle.dt_script.specs.Ends.{Made, Have, Want, NeedName, NeedWord, state_with, next_from, next_made, with_stmt, made_at, made_none, end_step, none_step}
+use Rattle.dt_script.specs.Ends.{Made, Have, Want, NeedWord, state_with, next_from, next_made, with_stmt, made_at, made_none, end_step, none_step}
 
 -- the state behind what is made, with these frames around it
 abbrev behind : List Frame → Option Made → Option State

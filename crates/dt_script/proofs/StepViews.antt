@@ -1,5 +1,5 @@
 -- The steps of the machine, frame by frame, and the view of what the code makes of a frame.
-use Rattle.std.proofs.Common.{◌≡◌, ◌≢◌, ℕ, Bool, true, false, cond, List, [], ◌∷◌, ◌++◌, Option, Some, None, option_map, option_and_then, refl, sym, ◌∙◌, ap, subst}
+use Rattle.std.proofs.Common.{◌≡◌, ◌≢◌, Bool, true, false, List, [], ◌∷◌, ◌++◌, Option, Some, None, option_map, option_and_then, refl, sym, ◌∙◌, ap, subst}
 use Rattle.dt_tree.specs.declared.tree.Expr.{Expr, out-Expr, roll-Expr, roll-out-Expr}
 use Rattle.dt_tree.specs.declared.tree.Expr.TheOpen.{Expr-F}
 use Rattle.dt_tree.specs.declared.tree.Expr.TheOpen as layer
@@ -10,9 +10,9 @@ use Rattle.dt_tree.specs.declared.tree.Tail.{Tail}
 use Rattle.dt_tree.specs.declared.tree.Bracket.{Bracket, out-Bracket, roll-out-Bracket}
 use Rattle.dt_tree.specs.declared.tree.Stmt as stmt_type
 use Rattle.run_model.specs.GrammarTrees.{Word, Tree, Var, Given, NoArgs, MoreArgs, Brackets, NoBrackets, MoreBrackets}
-use Rattle.run_model.specs.Grammar.{Filled, Nothing, UpToI, UpToJ, UpToBy, with_bracket, as_j, is_j, with_name}
+use Rattle.run_model.specs.Grammar.{Filled, Nothing, UpToI, UpToJ, UpToBy, with_bracket, as_j, with_name}
 use Rattle.run_model.specs.TreeView.{tree_of, bracket_of, first_of, second_of, args_of, stmt_of, stmts_of}
-use Rattle.dt_grammar.specs.Machine.{Frame, Front, Left, InParen, InCall, InItem, InNamed, InAssign, InStmt, Want, Have, head_of, name_top, arrow_top, opens, naming}
+use Rattle.dt_grammar.specs.Machine.{Frame, Front, Left, InParen, InCall, InItem, InNamed, InAssign, InStmt, Want, head_of, name_top, arrow_top, opens, naming}
 use Rattle.dt_grammar.proofs.Trees.{tree_of-Lit, tree_of-Null, tree_of-Infinite, tree_of-Name, tree_of-Paren, tree_of-Minus, tree_of-Not, tree_of-Chain, tree_of-Call, tree_of-Query, tree_of-Formula, item_of_second-Value, item_of_second-Assign, item_of_second-AssignAll, bracket_of-roll, brackets_of-push}
 use Rattle.dt_script.specs.Steps.{bracket_tree, placed, bare_name, in_naming, in_arrow}
 

@@ -8,7 +8,6 @@
 --   frames_of fs     all of it, the innermost first
 --   state_of s       a state
 use Rattle.std.specs.Prelude.{ℕ, suc, Bool, false, nat_le, List, [], ◌∷◌}
-use Rattle.dt_tree.specs.declared.tree.Arg.{Arg}
 use Rattle.dt_tree.specs.declared.tree.Expr.{Expr}
 use Rattle.dt_script.specs.declared.frames.Prefix as prefix_type
 use Rattle.dt_script.specs.declared.frames.Prefix.TheVariants as prefix
@@ -23,7 +22,7 @@ use Rattle.dt_script.specs.declared.frames.Frame as frame_type
 use Rattle.dt_script.specs.declared.frames.Frame.TheVariants as frame
 use Rattle.dt_script.specs.declared.frames.State as state_type
 use Rattle.dt_script.specs.declared.frames.State.TheVariants as state
-use Rattle.run_model.specs.GrammarTrees.{Word, Args, Typed, Null, Infinite, Prefix, Not, Negate, Token, Name, Literal, Operator, Bang, Tilde, Assign, Arrow, Is, Open, Shut, OpenSquare, ShutSquare, Comma, Break, Semicolon, Tree, Unary, Chain, MoreTails}
+use Rattle.run_model.specs.GrammarTrees.{Typed, Null, Infinite, Prefix, Not, Negate, Token, Name, Literal, Operator, Bang, Tilde, Assign, Arrow, Is, Open, Shut, OpenSquare, ShutSquare, Comma, Break, Semicolon, Tree, Unary, Chain, MoreTails}
 use Rattle.run_model.specs.Grammar.{level, prefix_level, Filled, Nothing, UpToI, UpToJ, UpToBy}
 use Rattle.dt_grammar.specs.Machine.{Head, Frame, Front, Left, InParen, InCall, InItem, InNamed, InAssign, InStmt, State, Want, Have, NeedName, NeedIs, NeedWord, HaveWords}
 use Rattle.run_model.specs.TreeView.{tree_of, tails_of, args_of, brackets_of, first_of, second_of, stmts_of}

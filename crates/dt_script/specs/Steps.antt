@@ -8,17 +8,17 @@
 --   bare_name t          the name that an expression is
 --   added_name t         the name behind a "+"
 --   names_behind xs ts   the names xs and those that the tails ts add
-use Rattle.std.specs.Prelude.{ℕ, Bool, List, [], ◌∷◌, ◌++◌, Option, Some, None, option_map, option_and_then, if◌then◌else◌}
+use Rattle.std.specs.Prelude.{Bool, List, [], ◌∷◌, ◌++◌, Option, Some, None, option_map, option_and_then, if◌then◌else◌}
 use Rattle.dt_base.specs.declared.operators.Op.TheVariants.{Add}
 use Rattle.dt_tree.specs.declared.tree.BinOp.{BinOp}
 use Rattle.dt_tree.specs.declared.tree.BinOp.TheVariants.{Arith}
 use Rattle.dt_tree.specs.declared.tree.Expr.{Expr}
 use Rattle.dt_script.specs.declared.frames.Head as head_type
 use Rattle.dt_script.specs.declared.frames.Filled as filled_type
-use Rattle.run_model.specs.GrammarTrees.{Word, Tree, Var, Paren, Call, NoArgs, MoreArgs, Item, Absent}
+use Rattle.run_model.specs.GrammarTrees.{Word, Tree, Var, NoArgs, Item, Absent}
 use Rattle.run_model.specs.Grammar.{Filled, Nothing, UpToI, UpToJ, UpToBy, item_of, is_j}
 use Rattle.run_model.specs.TreeView.{BracketTree, TailTree, item_in, tree_of}
-use Rattle.dt_grammar.specs.Machine.{Head, Frame, InParen, InCall, InItem, InNamed, InAssign, InStmt}
+use Rattle.dt_grammar.specs.Machine.{Head, Frame, InCall, InItem, InNamed, InAssign, InStmt}
 use Rattle.dt_script.specs.Frames.{head_tree, filled_of}
 
 abbrev pub bracket_tree : Filled → BracketTree

@@ -1,4 +1,4 @@
-use Rattle.std.proofs.Common.{◌≡◌, ◌∷◌, IfOk, option_map, subst, ap}
+use Rattle.std.proofs.Common.{◌≡◌, ◌∷◌, IfOk, option_map, subst}
 use Rattle.run_model.specs.TreeView.{args_of}
 use Rattle.dt_grammar.specs.Machine.{InCall}
 use Rattle.dt_grammar.proofs.Trees.{tree_of-Formula}
