@@ -1,7 +1,10 @@
 ghost use Rattle.std.specs.Prelude.{◌≡◌, IfErr, ◌<◌, ◌==◌, [], map, length, nat_lt};
 ghost use Rattle.session_model.specs.Expression.{names_in};
 ghost use Rattle.session_model.specs.Meaning.{arg_meaning};
-ghost use Rattle.session_model.specs.Binding.{free_count, unnamed_count, place_of, places, is_formal, is_bad, names_fine, missing_word, is_lacking, all_there, word_in, counted, bound_to_formals, bound_unnamed, bound};
+ghost use Rattle.session_model.specs.Binding.{free_count, unnamed_count, place_of, places};
+ghost use Rattle.session_model.specs.Binding.{is_formal, is_bad, names_fine, missing_word};
+ghost use Rattle.session_model.specs.Binding.{is_lacking, all_there, word_in, counted};
+ghost use Rattle.session_model.specs.Binding.{bound_to_formals, bound_unnamed, bound};
 ghost use Rattle.eval_fail.specs.Answers.{Answers, IsOwn};
 
 use crate::places::{is_free_formal, is_unnamed, next, place, place_named};
@@ -48,7 +51,8 @@ fn stands_in(w: &str, ps: &[Formal]) -> bool
 
 /// Whether the name of the argument at place i is unknown, or bound before.
 fn is_refused(args: &[Arg], ps: &[Formal], i: usize, a: &Arg) -> bool
-    ensures { result ≡ is_bad (names_in (map arg_meaning args.now)) ps.now i (arg_meaning a.now).name }
+    ensures { result ≡ is_bad (names_in (map arg_meaning args.now)) ps.now i
+        (arg_meaning a.now).name }
 {
     match &a.name {
         None => false,
@@ -74,7 +78,9 @@ fn word_of_name(a: &Arg) -> &str
 }
 
 fn check_names(alloc: Global, args: &[Arg], ps: &[Formal]) -> Result<(), EvalFail>
-    ensures answer { Answers (names_fine (names_in (map arg_meaning args.now)) ps.now 0 (names_in (map arg_meaning args.now))) result }
+    ensures answer { Answers
+        (names_fine (names_in (map arg_meaning args.now)) ps.now 0
+        (names_in (map arg_meaning args.now))) result }
     ensures own { IfErr result IsOwn }
 {
     for (i, a) in args.iter().enumerate() {
@@ -101,7 +107,8 @@ fn word_for(f: Func, p: Formal) -> &'static str
 
 fn check_there(alloc: Global, f: Func, args: &[Arg], ps: &[Formal]) -> Result<(), EvalFail>
     requires { length ps.now < 1000 }
-    ensures answer { Answers (all_there f (places (names_in (map arg_meaning args.now)) 0 ps.now)) result }
+    ensures answer { Answers (all_there f (places (names_in (map arg_meaning args.now)) 0 ps.now))
+        result }
     ensures own { IfErr result IsOwn }
 {
     let mut before = 0;
@@ -144,11 +151,11 @@ fn bind_unnamed(alloc: Global, f: Func, args: &[Arg]) -> Result<(), EvalFail>
 
 /// Nothing, or the first fault of binding these arguments to a function's formals.
 ///
-/// To formals: a name that is unknown or bound twice (E19 with the name, in the order written), then
-/// a needed formal without an argument (E19 with its name, or the function's where the formal has
-/// none), then too many arguments (E19 with the function's name). Without names: the first name
-/// (E19 with it), then no argument at all (E19 with the function's name). As columns: no argument at
-/// all. dtq's own rule, docs/LANGUAGE.md, section "Calls".
+/// To formals: a name that is unknown or bound twice (E19 with the name, in the order written),
+/// then a needed formal without an argument (E19 with its name, or the function's where the formal
+/// has none), then too many arguments (E19 with the function's name). Without names: the first
+/// name (E19 with it), then no argument at all (E19 with the function's name). As columns: no
+/// argument at all. dtq's own rule, docs/LANGUAGE.md, section "Calls".
 pub fn bind(alloc: Global, f: Func, args: &[Arg]) -> Result<(), EvalFail>
     ensures answer { Answers (bound f (names_in (map arg_meaning args.now))) result }
     ensures own { IfErr result IsOwn }

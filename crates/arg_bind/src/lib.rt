@@ -1,8 +1,8 @@
 //! How the arguments of a call find their formals.
 //!
-//! - `bind` tells the first fault of the binding, or none. After it, `place` gives the argument that
-//!   a formal takes, and `next` counts the formals before it.
-//! - `bare_name` and `text_literal` read an argument that counts as it is written.
+//! - `bind` tells the first fault of the binding, or none. After it, `place` gives the argument
+//!   that a formal takes, and `next` counts the formals before it.
+//! - `bare_name`, `flag_literal` and `text_literal` read an argument that counts as it is written.
 //!
 //! It stands on the tables of `func_table` and on the definitions of `session_model`, and serves
 //! every function and command alike: a further one is a further row in the tables. It promises
@@ -15,5 +15,5 @@ mod forms;
 mod places;
 
 pub use binding::bind;
-pub use forms::{bare_name, text_literal};
+pub use forms::{bare_name, flag_literal, text_literal};
 pub use places::{next, place};

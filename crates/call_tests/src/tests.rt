@@ -1,10 +1,5 @@
 mod cases;
-mod columns;
 mod groups;
-mod names;
-mod orders;
-mod printing;
 mod runs;
 mod sessions;
 mod surroundings;
-mod tables;

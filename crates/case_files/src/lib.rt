@@ -6,8 +6,8 @@
 //! - `CasesFail` and `Wrong`: the line that is no such file's, and why.
 //! - `compare` tells a part of a run that differs from what its case wants.
 //!
-//! A file is UTF-8, and each of its lines is one of these; any other is refused, with its number, so
-//! that no misspelt line passes for a remark:
+//! A file is UTF-8, and each of its lines is one of these; any other is refused, with its number,
+//! so that no misspelt line passes for a remark:
 //!
 //!     (empty)         nothing
 //!     # TEXT          a remark, as how the wanted bytes were worked out; `#` alone too
@@ -25,8 +25,8 @@
 //!     >TEXT           a piece of the part, without a line feed
 //!     =HH HH ..       bytes of the part, as pairs of hexadecimal digits
 //!
-//! A case has a script or words, and wants something: `out`, `err`, `wrote` or `status`. No part, and
-//! no file of either kind, stands twice in it.
+//! A case has a script or words, and wants something: `out`, `err`, `wrote` or `status`. No part,
+//! and no file of either kind, stands twice in it.
 //!
 //! It stands on `dt_base` alone, for the names. It is for tests, and promises nothing but safety.
 #![tactic(auto)]

@@ -91,7 +91,8 @@ fn status<'a>(text: &str) -> Option<Mark<'a>> {
     }
 }
 
-/// The bytes that pairs of hexadecimal digits with a blank between them stand for, if they are such.
+/// The bytes that pairs of hexadecimal digits with a blank between them stand for, if they are
+/// such.
 pub fn bytes_of(alloc: Global, pairs: &str) -> Result<Option<Vec<u8>>, AllocError> {
     let mut bytes = Vec::new(alloc);
     for pair in pairs.split(' ') {

@@ -6,8 +6,8 @@
 //! - `folder` is what a case is run over: files in memory that remember which names were written.
 //! - `ended` runs one case, and `difference` compares what it left with what is wanted.
 //!
-//! It stands on `dt_run` for the run and on `case_files` for the cases. It is for tests, and promises
-//! nothing but safety: `wrong_cases` runs cases that must fail.
+//! It stands on `dt_run` for the run and on `case_files` for the cases. It is for tests, and
+//! promises nothing but safety: `wrong_cases` runs cases that must fail.
 #![tactic(auto)]
 
 mod difference;

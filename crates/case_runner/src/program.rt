@@ -24,7 +24,8 @@ struct Tally {
 }
 
 /// Runs the cases of the files that the program's words name. It ends with 0 where there are files,
-/// all were read and no case failed, with 1 where a case failed, and with 2 where a file was refused.
+/// all were read and no case failed, with 1 where a case failed, and with 2 where a file was
+/// refused.
 pub fn run_files<R: Files + Env + Print + Eprint + AllocGlobal, L: Ledger>(
     rt: &R,
     blank: Blank,

@@ -1,5 +1,6 @@
 -- What digits spell when they follow others, one digit at a time.
-use Rattle.std.proofs.Common.{◌≡◌, ◌≤◌, ◌<◌, ◌+◌, ◌*◌, ◌-◌, ◌%◌, ◌^◌, ◌⊎◌, ℕ, suc, Bool, ◌&&◌, List, [], ◌∷◌, Some, None, length, drop, get_or, nat_lt, arith, add-one, drop-cons, if◌then◌else◌}
+use Rattle.std.proofs.Common.{◌≡◌, ◌≤◌, ◌<◌, ◌+◌, ◌*◌, ◌-◌, ◌%◌, ◌^◌, ◌⊎◌, ℕ, suc, Bool, ◌&&◌, List, [], ◌∷◌, Some}
+use Rattle.std.proofs.Common.{None, length, drop, get_or, nat_lt, arith, add-one, drop-cons, if◌then◌else◌}
 use Rattle.std.proofs.Math.Nat.{pow-le-pow_right}
 use Rattle.std.proofs.lemmas.Grind.{common_steps}
 use Rattle.std.specs.Char.{digit_value}
@@ -9,7 +10,8 @@ use Rattle.cell_text.specs.Digits.{natural_after}
 use Rattle.dt_model.specs.Spelling.{natural_of}
 
 -- one digit more
-pub natural_after_digit : (n c : ℕ) (cs : List ℕ) → 48 ≤ c → c ≤ 57 → natural_after n (c ∷ cs) ≡ natural_after (n * 10 + (c - 48)) cs
+pub natural_after_digit : (n c : ℕ) (cs : List ℕ) → 48 ≤ c → c ≤ 57
+    → natural_after n (c ∷ cs) ≡ natural_after (n * 10 + (c - 48)) cs
 natural_after_digit n c cs low high = grind (arith, common_steps)
 
 -- a byte that is no digit

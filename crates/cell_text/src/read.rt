@@ -1,4 +1,5 @@
-ghost use Rattle.std.specs.Prelude.{◌≡◌, ◌≤◌, ◌<◌, ◌-◌, ◌⊎◌, ◌≤ℤ◌, pos, length, IfSome, MatchOption, option_map};
+ghost use Rattle.std.specs.Prelude.{◌≡◌, ◌≤◌, ◌<◌, ◌-◌, ◌⊎◌, ◌≤ℤ◌, pos, length, IfSome};
+ghost use Rattle.std.specs.Prelude.{MatchOption, option_map};
 ghost use Rattle.cell_text.specs.Digits.{natural_after};
 ghost use Rattle.dt_base.specs.Cell.{IsOfType};
 ghost use Rattle.dt_base.specs.declared.cell.Cell.TheVariants as cell;
@@ -35,7 +36,8 @@ fn natural_of(digits: &[u8]) -> Option<i64>
 
 /// The digit that a byte writes.
 fn digit_of(byte: u8) -> Option<u64>
-    ensures { MatchOption result ((byte < 48) ⊎ (57 < byte)) (λ digit. (48 ≤ byte) × (byte ≤ 57) × (digit ≡ byte - 48)) }
+    ensures { MatchOption result ((byte < 48) ⊎ (57 < byte))
+        (λ digit. (48 ≤ byte) × (byte ≤ 57) × (digit ≡ byte - 48)) }
 {
     let digit = u64::from(byte).wrapping_sub(48);
     if digit > 9 { None } else { Some(digit) }

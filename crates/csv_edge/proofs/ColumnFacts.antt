@@ -18,17 +18,21 @@ columns_next before after col x left rest all joined made taken whole =
 
 -- those that are left still have this length
 pub length_rest : (x : Filling) (left rest : List Filling) (n : ℕ) → left ≡ x ∷ rest
-    → All (λ column. length (filled_vector column).cells ≡ n) left → All (λ column. length (filled_vector column).cells ≡ n) rest
+    → All (λ column. length (filled_vector column).cells ≡ n) left
+    → All (λ column. length (filled_vector column).cells ≡ n) rest
 length_rest x left rest n taken long k d h =
-    let long' : All (λ column. length (filled_vector column).cells ≡ n) (x ∷ rest) = rw taken at long in long' (suc k) d (omega arith)
+    let long' : All (λ column. length (filled_vector column).cells ≡ n) (x ∷ rest) = rw taken at long in
+    long' (suc k) d (omega arith)
 
 pub length_first : (x : Filling) (left rest : List Filling) (n : ℕ) → left ≡ x ∷ rest
     → All (λ column. length (filled_vector column).cells ≡ n) left → length (filled_vector x).cells ≡ n
 length_first x left rest n taken long =
-    let long' : All (λ column. length (filled_vector column).cells ≡ n) (x ∷ rest) = rw taken at long in long' 0 x (omega arith)
+    let long' : All (λ column. length (filled_vector column).cells ≡ n) (x ∷ rest) = rw taken at long in
+    long' 0 x (omega arith)
 
 -- a column has the cells of its words
-pub column_cells : (col : Seen) (x : Filling) → col.vector ≡ filled_vector x → length col.vector.cells ≡ length (filled_vector x).cells
+pub column_cells : (col : Seen) (x : Filling) → col.vector ≡ filled_vector x
+    → length col.vector.cells ≡ length (filled_vector x).cells
 column_cells col x made = rw made refl
 
 -- a frame of all columns has their length, and none of no column

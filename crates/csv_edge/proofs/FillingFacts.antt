@@ -1,5 +1,7 @@
 -- What fields tell of types, and columns that gain fields.
-use Rattle.std.proofs.Common.{◌≡◌, ◌<◌, ◌++◌, ◌||◌, ◌⊎◌, ℕ, ℤ, List, [], ◌∷◌, Bool, true, false, map, length, replicate, Some, None, refl, sym, subst, ◌∙◌, inl, inr, append_assoc, arith, true≢false, if◌then◌else◌, is_some}
+use Rattle.std.proofs.Common.{◌≡◌, ◌<◌, ◌++◌, ◌||◌, ◌⊎◌, ℕ, ℤ, List, [], ◌∷◌, Bool, true, false, map, length, replicate}
+use Rattle.std.proofs.Common.{Some, None, refl, sym, subst, ◌∙◌, inl, inr, append_assoc, arith, true≢false}
+use Rattle.std.proofs.Common.{if◌then◌else◌, is_some}
 use Rattle.std.specs.Global.{Global}
 use Rattle.std.specs.List.{list_all, list_any}
 use Rattle.std.specs.Prelude.{Vec, codes}
@@ -8,7 +10,7 @@ use Rattle.std.proofs.lemmas.Bool.{and_parts, and_right, both_ways}
 use Rattle.std.proofs.lemmas.List.{append-nil, map-append}
 use Rattle.std.proofs.lemmas.List.Elements.{All-push, All-replicate}
 use Rattle.std.proofs.lemmas.List.Folds.{list_all-append}
-use Rattle.csv_edge.proofs.NameFacts.{same_text}
+use Rattle.header_names.proofs.NameFacts.{same_text}
 use Rattle.csv_edge.specs.Filling.{Holds, Gains, IsSound, filled_vector}
 use Rattle.csv_edge.specs.declared.filling.Filling.{Filling}
 use Rattle.csv_edge.specs.declared.filling.Filling.TheVariants.{Missing, Lgl, Int, Chr, Late}
@@ -32,7 +34,8 @@ EachIs P [] = Unit {0}
 EachIs P (w ∷ ws) = P w × EachIs P ws
 
 -- is so of a text that is one of them
-pub any_is : (P : List ℕ → Type 0) (f : List ℕ) (ws : List (List ℕ)) → EachIs P ws → list_any (bytes_eq f) ws ≡ true → P f
+pub any_is : (P : List ℕ → Type 0) (f : List ℕ) (ws : List (List ℕ)) → EachIs P ws
+    → list_any (bytes_eq f) ws ≡ true → P f
 any_is P f [] h e = absurd (true≢false (sym e))
 any_is P f (w ∷ ws) h e = elim (either (bytes_eq f w) (list_any (bytes_eq f) ws) e) [
   | inl one ↦ subst P (sym (same_text f w one)) h.0
@@ -58,7 +61,8 @@ missing_suits_lgl f e = rw e refl
 missing_suits_int : (f : List ℕ) → is_missing f ≡ true → suits ty.Int f ≡ true
 missing_suits_int f e = rw e refl
 
-pub named : (a b : Bool) → is_some (if a then Some true else (if b then Some false else None)) ≡ true → (a ≡ true) ⊎ (b ≡ true)
+pub named : (a b : Bool) → is_some (if a then Some true else (if b then Some false else None)) ≡ true
+    → (a ≡ true) ⊎ (b ≡ true)
 named true b e = inl refl
 named false true e = inr refl
 named false false e = absurd (true≢false (sym e))
@@ -85,36 +89,45 @@ apart f told e = elim (either (is_missing f) (is_some (field_truth f)) e) [
 
 -- ---- one field more
 
-all_more : (p : List ℕ → Bool) (fs : List (List ℕ)) (f : List ℕ) → list_all p fs ≡ true → p f ≡ true → list_all p (fs ++ f ∷ []) ≡ true
+all_more : (p : List ℕ → Bool) (fs : List (List ℕ)) (f : List ℕ) → list_all p fs ≡ true → p f ≡ true
+    → list_all p (fs ++ f ∷ []) ≡ true
 all_more p fs f a b = rw (list_all-append p fs (f ∷ []), a, b) refl
 
 not_here : (p : List ℕ → Bool) (fs : List (List ℕ)) (f : List ℕ) → p f ≡ false → list_all p (fs ++ f ∷ []) ≡ false
 not_here p fs f b = rw (list_all-append p fs (f ∷ []), b) (and_right (list_all p fs) false refl)
 
-all_suit : (p q : List ℕ → Bool) → ((f : List ℕ) → p f ≡ true → q f ≡ true) → (fs : List (List ℕ)) → list_all p fs ≡ true → list_all q fs ≡ true
+all_suit : (p q : List ℕ → Bool) → ((f : List ℕ) → p f ≡ true → q f ≡ true) → (fs : List (List ℕ))
+    → list_all p fs ≡ true → list_all q fs ≡ true
 all_suit p q each [] e = refl
 all_suit p q each (f ∷ fs) e =
     let parts = and_parts (p f) (list_all p fs) e in rw (each f parts.0, all_suit p q each fs parts.1) refl
 
 -- the words of fields that tell no type
-missing_lgls : (fs : List (List ℕ)) → list_all is_missing fs ≡ true → map lgl_cell (replicate (length fs) 2) ≡ map (field_cell ty.Lgl) fs
+missing_lgls : (fs : List (List ℕ)) → list_all is_missing fs ≡ true
+    → map lgl_cell (replicate (length fs) 2) ≡ map (field_cell ty.Lgl) fs
 missing_lgls [] e = refl
 missing_lgls (f ∷ fs) e =
-    let parts = and_parts (is_missing f) (list_all is_missing fs) e in rw (missing_lgl f parts.0, missing_lgls fs parts.1) refl
+    let parts = and_parts (is_missing f) (list_all is_missing fs) e in
+    rw (missing_lgl f parts.0, missing_lgls fs parts.1) refl
 
-missing_ints : (fs : List (List ℕ)) → list_all is_missing fs ≡ true → map int_cell (replicate (length fs) NA_WORD) ≡ map (field_cell ty.Int) fs
+missing_ints : (fs : List (List ℕ)) → list_all is_missing fs ≡ true
+    → map int_cell (replicate (length fs) NA_WORD) ≡ map (field_cell ty.Int) fs
 missing_ints [] e = refl
 missing_ints (f ∷ fs) e =
-    let parts = and_parts (is_missing f) (list_all is_missing fs) e in rw (missing_int f parts.0, missing_ints fs parts.1) refl
+    let parts = and_parts (is_missing f) (list_all is_missing fs) e in
+    rw (missing_int f parts.0, missing_ints fs parts.1) refl
 
-first_cells : {X : Type 0} (c : X → Cell) (g : List ℕ → Cell) (fs : List (List ℕ)) (f : List ℕ) (n : ℕ) (na w : X) (words : List X)
-    → n ≡ length fs → map c (replicate (length fs) na) ≡ map g fs → c w ≡ g f → words ≡ replicate n na ++ w ∷ [] → map c words ≡ map g (fs ++ f ∷ [])
+first_cells : {X : Type 0} (c : X → Cell) (g : List ℕ → Cell) (fs : List (List ℕ)) (f : List ℕ) (n : ℕ) (na w : X)
+    (words : List X)
+    → n ≡ length fs → map c (replicate (length fs) na) ≡ map g fs → c w ≡ g f → words ≡ replicate n na ++ w ∷ []
+    → map c words ≡ map g (fs ++ f ∷ [])
 first_cells c g fs f n na w words count before here made =
     rw (made, count, map-append c (replicate (length fs) na) (w ∷ []), before, here, map-append g fs (f ∷ [])) refl
 
 -- ---- a field in the first reading
 
-pub missing_to_lgl : (n w : ℕ) (words : Vec ℕ Global) (f : List ℕ) → is_missing f ≡ false → suits ty.Lgl f ≡ true → lgl_cell w ≡ field_cell ty.Lgl f → w < 3
+pub missing_to_lgl : (n w : ℕ) (words : Vec ℕ Global) (f : List ℕ) → is_missing f ≡ false → suits ty.Lgl f ≡ true
+    → lgl_cell w ≡ field_cell ty.Lgl f → w < 3
     → words.items ≡ replicate n 2 ++ w ∷ [] → Gains false (Missing n) (Lgl words) (f ∷ [])
 missing_to_lgl n w words f told e here low made = record {
   holds = λ typed texts none h. (
@@ -125,7 +138,8 @@ missing_to_lgl n w words f told e here low made = record {
   );
 }
 
-pub missing_to_int : (n : ℕ) (w : ℤ) (words : Vec ℤ Global) (f : List ℕ) → suits ty.Lgl f ≡ false → suits ty.Int f ≡ true → int_cell w ≡ field_cell ty.Int f
+pub missing_to_int : (n : ℕ) (w : ℤ) (words : Vec ℤ Global) (f : List ℕ) → suits ty.Lgl f ≡ false
+    → suits ty.Int f ≡ true → int_cell w ≡ field_cell ty.Int f
     → words.items ≡ replicate n NA_WORD ++ w ∷ [] → Gains false (Missing n) (Int words) (f ∷ [])
 missing_to_int n w words f not_lgl e here made = record {
   holds = λ typed texts none h. (
@@ -141,24 +155,28 @@ pub gains_none : (again : Bool) (w : Filling) → Gains again w w []
 gains_none true w = record { holds = λ typed texts none h. rw (append-nil typed, append-nil texts) h }
 gains_none false w = record { holds = λ typed texts none h. rw (append-nil typed, append-nil texts) h }
 
-pub gains_next : (again : Bool) (a b c : Filling) (x : List ℕ) (xs : List (List ℕ)) → Gains again a b (x ∷ []) → Gains again b c xs → Gains again a c (x ∷ xs)
+pub gains_next : (again : Bool) (a b c : Filling) (x : List ℕ) (xs : List (List ℕ)) → Gains again a b (x ∷ [])
+    → Gains again b c xs → Gains again a c (x ∷ xs)
 gains_next true a b c x xs first rest = record {
   holds = λ typed texts none h.
       let one = first.holds typed texts none h in
       let two = rest.holds (typed ++ []) (texts ++ x ∷ []) (λ e. absurd (true≢false e)) one in
       let same : (texts ++ x ∷ []) ++ xs ≡ texts ++ x ∷ xs = append_assoc texts (x ∷ []) xs in
-      subst (λ t. Holds c t (texts ++ x ∷ xs)) (append-nil (typed ++ [])) (subst (λ t. Holds c ((typed ++ []) ++ []) t) same two);
+      subst (λ t. Holds c t (texts ++ x ∷ xs)) (append-nil (typed ++ []))
+      (subst (λ t. Holds c ((typed ++ []) ++ []) t) same two);
 }
 gains_next false a b c x xs first rest = record {
   holds = λ typed texts none h.
       let one = first.holds typed texts none h in
       let two = rest.holds (typed ++ x ∷ []) (texts ++ []) (λ e. append-nil texts ∙ none e) one in
       let same : (typed ++ x ∷ []) ++ xs ≡ typed ++ x ∷ xs = append_assoc typed (x ∷ []) xs in
-      subst (λ t. Holds c t (texts ++ [])) same (subst (λ t. Holds c ((typed ++ x ∷ []) ++ xs) t) (append-nil (texts ++ [])) two);
+      subst (λ t. Holds c t (texts ++ [])) same
+      (subst (λ t. Holds c ((typed ++ x ∷ []) ++ xs) t) (append-nil (texts ++ [])) two);
 }
 
 -- a column that was empty, and got all fields in both readings
-pub filled_twice : (w0 w1 w2 : Filling) (fs : List (List ℕ)) → w0 ≡ Missing 0 → Gains false w0 w1 fs → Gains true w1 w2 fs → Holds w2 fs fs
+pub filled_twice : (w0 w1 w2 : Filling) (fs : List (List ℕ)) → w0 ≡ Missing 0 → Gains false w0 w1 fs
+    → Gains true w1 w2 fs → Holds w2 fs fs
 filled_twice w0 w1 w2 fs e first second =
     let start : Holds w0 [] [] = rw e (refl, refl) in
     let one = first.holds [] [] (λ _. refl) start in
@@ -169,7 +187,11 @@ filled_twice w0 w1 w2 fs e first second =
 
 -- it has the vector of the fields
 pub holds_vector : (w : Filling) (fs : List (List ℕ)) → Holds w fs fs → filled_vector w ≡ fields_vector fs
-holds_vector (Missing n) fs h = rw (h.1, all_suit is_missing (suits ty.Lgl) missing_suits_lgl fs h.0, missing_lgls fs h.0) refl
+holds_vector (Missing n) fs h = rw (
+  h.1,
+  all_suit is_missing (suits ty.Lgl) missing_suits_lgl fs h.0,
+  missing_lgls fs h.0,
+) refl
 holds_vector (Lgl words) fs h = rw (h.0, h.2) refl
 holds_vector (Int words) fs h = rw (h.0, h.1, h.2) refl
 holds_vector (Chr words) fs h = rw (h.0, h.1, h.2) refl

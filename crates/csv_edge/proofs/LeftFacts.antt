@@ -1,5 +1,6 @@
 -- What a reader has left, before and after a read.
-use Rattle.std.proofs.Common.{◌≡◌, ◌<◌, ◌+◌, ℕ, zero, suc, List, [], ◌∷◌, Bool, true, false, Option, None, Some, IsSome, unwrap_or, length, refl, sym, ap, ◌∙◌, subst, arith, add-one, inl, true≢false}
+use Rattle.std.proofs.Common.{◌≡◌, ◌<◌, ◌+◌, ℕ, zero, suc, List, [], ◌∷◌, Bool, true, false, Option, None, Some, IsSome}
+use Rattle.std.proofs.Common.{unwrap_or, length, refl, sym, ap, ◌∙◌, subst, arith, add-one, inl, true≢false}
 use Rattle.std.specs.Borrow.{Bor}
 use Rattle.std.specs.Bool.{MatchBool}
 use Rattle.csv.specs.Machine.{Read, next_record, ends_at_end}
@@ -15,7 +16,8 @@ use Rattle.run_model.specs.Csv.{Record}
 -- the same step on two bounds that are both large enough
 bound_next : (cfg : Config) (n m : ℕ) (s : State) (xs : List ℕ)
     → ((p : Read) → next_record cfg s [] [] xs ≡ Some p → records_from cfg n p.1 p.2 ≡ records_from cfg m p.1 p.2)
-    → (o : Option Read) → next_record cfg s [] [] xs ≡ o → records_next (records_from cfg n) o ≡ records_next (records_from cfg m) o
+    → (o : Option Read) → next_record cfg s [] [] xs ≡ o
+    → records_next (records_from cfg n) o ≡ records_next (records_from cfg m) o
 bound_next cfg n m s xs same None e = refl
 bound_next cfg n m s xs same (Some p) e = ap (λ rest. p.0 ∷ rest) (same p e)
 
@@ -63,7 +65,8 @@ first_and_rest : (y z : List ℕ) (s t : State) (f : Record) (p : Read) → ends
 first_and_rest y z s t f p between e ef et ez =
     rw (records_step default_config (length y) s y, e, ef, ← et, ← ez)
     (ap (λ rest. p.0 ∷ rest)
-    (bound_free default_config (length y) (length p.2 + 1) p.1 p.2 (read_takes default_config y s p between e) (omega arith)
+    (bound_free default_config (length y) (length p.2 + 1) p.1 p.2 (read_takes default_config y s p between e)
+    (omega arith)
     (read_settles default_config y s [] [] p e)))
 
 -- a read that found a record: it is the first that was left, and the reader is open again

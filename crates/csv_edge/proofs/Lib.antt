@@ -1,13 +1,9 @@
 pub mod ColumnFacts
-pub mod FieldFacts
 pub mod FillingFacts
 pub mod LeftFacts
-pub mod NameFacts
-pub mod NamesFacts
 pub mod OneRecord
 pub mod RowFacts
 pub mod Sizes
 pub mod TableFacts
 pub mod TextFacts
-pub mod WriteFacts
 pub mod WordFacts

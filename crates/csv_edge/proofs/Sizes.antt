@@ -1,5 +1,7 @@
 -- How many fields the records of a text have: no more than its bytes and one.
-use Rattle.std.proofs.Common.{◌≡◌, ◌<◌, ◌≤◌, ◌+◌, ◌*◌, ◌==◌, ◌⊎◌, ℕ, zero, suc, List, [], ◌∷◌, Bool, true, false, not, nat_le, cond, Option, None, Some, length, refl, sym, subst, inl, inr, arith, length-append, true≢false}
+use Rattle.std.proofs.Common.{◌≡◌, ◌<◌, ◌≤◌, ◌+◌, ◌*◌, ◌==◌, ◌⊎◌, ℕ, zero, suc, List, [], ◌∷◌, Bool, true, false, not}
+use Rattle.std.proofs.Common.{nat_le, cond, Option, None, Some, length, refl, sym, subst, inl, inr, arith}
+use Rattle.std.proofs.Common.{length-append, true≢false}
 use Rattle.std.specs.List.{list_all}
 use Rattle.std.specs.Str.{is_utf8}
 use Rattle.std.proofs.lemmas.Bool.{eqb-true}
@@ -16,14 +18,16 @@ use Rattle.run_model.specs.Csv.{Record, FileFault, row_fault, rows_fault, fault_
 -- ---- one record
 
 -- an action adds one field at the most
-fields_after-length : (a : Action) (fields : List (List ℕ)) (field : List ℕ) → length (fields_after a fields field) ≤ length fields + 1
+fields_after-length : (a : Action) (fields : List (List ℕ)) (field : List ℕ)
+    → length (fields_after a fields field) ≤ length fields + 1
 fields_after-length act.EndField fields field = omega (arith, length-append fields (field ∷ []))
 fields_after-length act.Skip fields field = omega arith
 fields_after-length act.Copy fields field = omega arith
 fields_after-length act.EndRecord fields field = omega (arith, length-append fields (field ∷ []))
 
 -- and the end of a record adds one
-end_adds : (a : Action) (fields : List (List ℕ)) (field : List ℕ) → is_end a ≡ true → 0 < length (fields_after a fields field)
+end_adds : (a : Action) (fields : List (List ℕ)) (field : List ℕ) → is_end a ≡ true
+    → 0 < length (fields_after a fields field)
 end_adds act.EndField fields field e = absurd (true≢false (sym e))
 end_adds act.Skip fields field e = absurd (true≢false (sym e))
 end_adds act.Copy fields field e = absurd (true≢false (sym e))
@@ -42,14 +46,18 @@ pub read_sized : (cfg : Config) (xs : List ℕ) (s : State) (fields : List (List
 unfolding next_record
 read_sized cfg [] s fields field =
     pick (ends_at_end s) (Some (last_read fields field)) None (Sized (length fields) [])
-    (λ _ p e. subst (Sized (length fields) []) (some_is (last_read fields field) p e) (inr (refl, omega (arith, length-append fields (field ∷ [])))))
+    (λ _ p e. subst (Sized (length fields) []) (some_is (last_read fields field) p e)
+    (inr (refl, omega (arith, length-append fields (field ∷ [])))))
     (λ _ p e. none_is p e)
 read_sized cfg (c ∷ rest) s fields field =
-    pick (is_end (step cfg s c).1) (Some (this_read cfg s c fields field rest)) (later_read cfg s c fields field rest) (Sized (length fields) (c ∷ rest))
+    pick (is_end (step cfg s c).1) (Some (this_read cfg s c fields field rest)) (later_read cfg s c fields field rest)
+    (Sized (length fields) (c ∷ rest))
     (λ _ p e. subst (Sized (length fields) (c ∷ rest)) (some_is (this_read cfg s c fields field rest) p e)
     (inl (omega (arith, fields_after-length (step cfg s c).1 fields field))))
-    (λ _ p e. sized_by (length fields) (length (fields_after (step cfg s c).1 fields field)) c rest p (fields_after-length (step cfg s c).1 fields field)
-    (read_sized cfg rest (step cfg s c).0 (fields_after (step cfg s c).1 fields field) (field_after (step cfg s c).1 c field) p e))
+    (λ _ p e. sized_by (length fields) (length (fields_after (step cfg s c).1 fields field)) c rest p
+    (fields_after-length (step cfg s c).1 fields field)
+    (read_sized cfg rest (step cfg s c).0 (fields_after (step cfg s c).1 fields field)
+    (field_after (step cfg s c).1 c field) p e))
 
 -- a record has a field
 pub read_some : (cfg : Config) (xs : List ℕ) (s : State) (fields : List (List ℕ)) (field : List ℕ) (p : Read)
@@ -57,12 +65,16 @@ pub read_some : (cfg : Config) (xs : List ℕ) (s : State) (fields : List (List 
 unfolding next_record
 read_some cfg [] s fields field =
     pick (ends_at_end s) (Some (last_read fields field)) None (λ p. 0 < length p.0)
-    (λ _ p e. subst (λ (q : Read). 0 < length q.0) (some_is (last_read fields field) p e) (omega (arith, length-append fields (field ∷ []))))
+    (λ _ p e. subst (λ (q : Read). 0 < length q.0) (some_is (last_read fields field) p e)
+    (omega (arith, length-append fields (field ∷ []))))
     (λ _ p e. none_is p e)
 read_some cfg (c ∷ rest) s fields field =
-    pick (is_end (step cfg s c).1) (Some (this_read cfg s c fields field rest)) (later_read cfg s c fields field rest) (λ p. 0 < length p.0)
-    (λ b p e. subst (λ (q : Read). 0 < length q.0) (some_is (this_read cfg s c fields field rest) p e) (end_adds (step cfg s c).1 fields field b))
-    (λ _ p e. read_some cfg rest (step cfg s c).0 (fields_after (step cfg s c).1 fields field) (field_after (step cfg s c).1 c field) p e)
+    pick (is_end (step cfg s c).1) (Some (this_read cfg s c fields field rest)) (later_read cfg s c fields field rest)
+    (λ p. 0 < length p.0)
+    (λ b p e. subst (λ (q : Read). 0 < length q.0) (some_is (this_read cfg s c fields field rest) p e)
+    (end_adds (step cfg s c).1 fields field b))
+    (λ _ p e. read_some cfg rest (step cfg s c).0 (fields_after (step cfg s c).1 fields field)
+    (field_after (step cfg s c).1 c field) p e)
 
 -- ---- all records
 
@@ -78,13 +90,15 @@ none_after cfg zero s h = refl
 none_after cfg (suc n) s h = rw h refl
 
 total_step : (cfg : Config) (n : ℕ) (s : State) (xs : List ℕ)
-    → ((p : Read) → next_record cfg s [] [] xs ≡ Some p → length p.0 + total (records_from cfg n p.1 p.2) ≤ length xs + 1)
+    → ((p : Read) → next_record cfg s [] [] xs ≡ Some p
+    → length p.0 + total (records_from cfg n p.1 p.2) ≤ length xs + 1)
     → (o : Option Read) → next_record cfg s [] [] xs ≡ o → total (records_next (records_from cfg n) o) ≤ length xs + 1
 total_step cfg n s xs some None e = omega arith
 total_step cfg n s xs some (Some p) e = some p e
 
 total_of : (cfg : Config) (n : ℕ) (xs : List ℕ) (p : Read) → ends_at_end p.1 ≡ false
-    → total (records_from cfg n p.1 p.2) ≤ length p.2 + 1 → Sized 0 xs p → length p.0 + total (records_from cfg n p.1 p.2) ≤ length xs + 1
+    → total (records_from cfg n p.1 p.2) ≤ length p.2 + 1 → Sized 0 xs p
+    → length p.0 + total (records_from cfg n p.1 p.2) ≤ length xs + 1
 total_of cfg n xs p between rest (inl h) = omega arith
 total_of cfg n xs p between rest (inr h) =
     let none : records_from cfg n p.1 p.2 ≡ [] = rw h.0 (none_after cfg n p.1 between) in rw none (omega (arith, h.1))
@@ -123,7 +137,8 @@ no_fault_rest None b e = e
 no_fault_rest (Some f) b e = cc
 
 right_length : (w : ℕ) (many same text : Bool)
-    → cond many (Some TooManyRows) (cond (not same) (Some (Ragged w)) (cond (not text) (Some (NotUtf8 w)) None)) ≡ None → same ≡ true
+    → cond many (Some TooManyRows) (cond (not same) (Some (Ragged w)) (cond (not text) (Some (NotUtf8 w)) None)) ≡ None
+    → same ≡ true
 right_length w true same text e = cc
 right_length w false true text e = refl
 right_length w false false text e = cc
@@ -142,16 +157,19 @@ rows_total w b (row ∷ rest) e =
 
 -- and there are no more than the limit
 many_rows : (w : ℕ) (many same text : Bool)
-    → cond many (Some TooManyRows) (cond (not same) (Some (Ragged w)) (cond (not text) (Some (NotUtf8 w)) None)) ≡ None → many ≡ false
+    → cond many (Some TooManyRows) (cond (not same) (Some (Ragged w)) (cond (not text) (Some (NotUtf8 w)) None)) ≡ None
+    → many ≡ false
 many_rows w true same text e = cc
 many_rows w false same text e = refl
 
 pub rows_few : (w b : ℕ) (rows : List Record) → b ≤ 16777216 → rows_fault w b rows ≡ None → b + length rows ≤ 16777216
 rows_few w b [] le e = omega arith
 rows_few w b (row ∷ rest) le e =
-    let here = many_rows (b + 2) (nat_le 16777216 b) (length row == w) (list_all is_utf8 row) (no_fault_first (row_fault w b row) (rows_fault w (b + 1) rest) e) in
+    let here = many_rows (b + 2) (nat_le 16777216 b) (length row == w) (list_all is_utf8 row)
+    (no_fault_first (row_fault w b row) (rows_fault w (b + 1) rest) e) in
     let below : b < 16777216 = grind arith in
-    let later = rows_few w (b + 1) rest (omega arith) (no_fault_rest (row_fault w b row) (rows_fault w (b + 1) rest) e) in
+    let later = rows_few w (b + 1) rest (omega arith)
+    (no_fault_rest (row_fault w b row) (rows_fault w (b + 1) rest) e) in
     omega arith
 
 -- ---- the cells of a file
@@ -162,14 +180,19 @@ strip_bom-length [] = omega arith
 strip_bom-length (a ∷ []) = omega arith
 strip_bom-length (a ∷ b ∷ []) = omega arith
 strip_bom-length (a ∷ b ∷ c ∷ rest) =
-    elim (is_bom a b c) as (λ v. length (cond v rest (a ∷ b ∷ c ∷ rest)) ≤ suc (suc (suc (length rest)))) [ true ↦ omega arith | false ↦ omega arith ]
+    elim (is_bom a b c) as (λ v. length (cond v rest (a ∷ b ∷ c ∷ rest)) ≤ suc (suc (suc (length rest)))) [
+      | true ↦ omega arith
+      | false ↦ omega arith
+    ]
 
 -- each cell takes a byte
-pub cells_within : (bytes : List ℕ) (header : Record) (rows : List Record) → records default_config (strip_bom bytes) ≡ header ∷ rows
+pub cells_within : (bytes : List ℕ) (header : Record) (rows : List Record)
+    → records default_config (strip_bom bytes) ≡ header ∷ rows
     → rows_fault (length header) 0 rows ≡ None → length rows * length header ≤ length bytes
 cells_within bytes header rows same right =
     let all = records_from-total default_config (length (strip_bom bytes) + 1) st.StartRecord (strip_bom bytes) refl in
-    let some = header_some default_config (length (strip_bom bytes) + 1) st.StartRecord (strip_bom bytes) header rows same in
+    let some = header_some default_config (length (strip_bom bytes) + 1) st.StartRecord (strip_bom bytes)
+    header rows same in
     let short = strip_bom-length bytes in
     let each = rows_total (length header) 0 rows right in
     let sum : length header + total rows ≤ length (strip_bom bytes) + 1 = rw same at all in

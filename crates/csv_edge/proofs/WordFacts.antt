@@ -1,5 +1,7 @@
 -- A field that is a word of logicals or integers is ASCII, and so it is UTF-8.
-use Rattle.std.proofs.Common.{◌≡◌, ◌∙◌, ◌<◌, ◌&&◌, ℕ, List, [], ◌∷◌, Bool, true, false, Option, Some, None, Result, Ok, Err, IfOk, IsAscii, is_some, if◌then◌else◌, option_map, length, refl, sym, inl, inr, arith, true≢false}
+use Rattle.std.proofs.Common.{◌≡◌, ◌∙◌, ◌<◌, ◌&&◌, ℕ, List, [], ◌∷◌, Bool, true, false, Option, Some, None, Result, Ok}
+use Rattle.std.proofs.Common.{Err, IfOk, IsAscii, is_some, if◌then◌else◌, option_map, length, refl, sym, inl, inr}
+use Rattle.std.proofs.Common.{arith, true≢false}
 use lib.Utf8.{encode}
 use Rattle.std.proofs.lemmas.Bool.{and_parts}
 use Rattle.std.proofs.lemmas.Grind.{common_steps}
@@ -43,11 +45,14 @@ sign_small : (b sign : ℕ) → sign < 128 → (b == sign) ≡ true → b < 128
 sign_small b sign small e = grind (arith, common_steps)
 
 signed_ascii : (b : ℕ) (rest : List ℕ) (minus plus : Bool) → (b == 45) ≡ minus → (b == 43) ≡ plus
-    → is_some (if minus then option_map (λ n. neg_ℤ (pos n)) (natural_of rest) else (if plus then option_map pos (natural_of rest) else option_map pos (natural_of (b ∷ rest)))) ≡ true
+    → is_some (if minus then option_map (λ n. neg_ℤ (pos n)) (natural_of rest) else
+    (if plus then option_map pos (natural_of rest) else option_map pos (natural_of (b ∷ rest)))) ≡ true
     → IsAscii (b ∷ rest)
 signed_ascii b rest true plus m p e =
-    IsAscii-cons b rest (sign_small b 45 (omega arith) m) (natural_ascii rest (mapped (λ n. neg_ℤ (pos n)) (natural_of rest) e))
-signed_ascii b rest false true m p e = IsAscii-cons b rest (sign_small b 43 (omega arith) p) (natural_ascii rest (mapped pos (natural_of rest) e))
+    IsAscii-cons b rest (sign_small b 45 (omega arith) m)
+    (natural_ascii rest (mapped (λ n. neg_ℤ (pos n)) (natural_of rest) e))
+signed_ascii b rest false true m p e = IsAscii-cons b rest (sign_small b 43 (omega arith) p)
+    (natural_ascii rest (mapped pos (natural_of rest) e))
 signed_ascii b rest false false m p e = natural_ascii (b ∷ rest) (mapped pos (natural_of (b ∷ rest)) e)
 
 integer_ascii : (f : List ℕ) → is_some (integer_of f) ≡ true → IsAscii f

@@ -20,9 +20,11 @@ first_length (column ∷ rest) = length (filled_vector column).cells
 
 -- each column holds the fields that the records have at its place, places counted from 0
 abbrev pub Gathered : List Filling → List Record → Type 0
-Gathered columns rows = (c : ℕ) (d : Filling) → c < length columns → Holds (slice_index_or columns c d) (fields_at c rows) (fields_at c rows)
+Gathered columns rows = (c : ℕ) (d : Filling) → c < length columns
+    → Holds (slice_index_or columns c d) (fields_at c rows) (fields_at c rows)
 
 -- each column gains the fields that the records have at its place; where they are read again, the texts of these
 abbrev pub AllGain : Bool → List Filling → List Filling → List Record → Type 0
 AllGain again before after rows =
-    (c : ℕ) (d : Filling) → c < length before → Gains again (slice_index_or before c d) (slice_index_or after c d) (fields_at c rows)
+    (c : ℕ) (d : Filling) → c < length before
+    → Gains again (slice_index_or before c d) (slice_index_or after c d) (fields_at c rows)

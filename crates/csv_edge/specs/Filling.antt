@@ -1,8 +1,10 @@
 -- A column while its file is read.
---   Holds column typed texts          the column's type is that of the fields typed, and its words are theirs; one that was told late has the texts of the fields texts
---   goes_on column f                  the field leaves the column's type as it is
---   Gains again before after fields   after is the column before behind these fields; where the records are read again, they tell no type, but give texts
---   filled_vector column              the vector of the column's words
+--   Holds column typed texts         the column's type is that of the fields typed, and its words are theirs;
+--                                    one that was told late has the texts of the fields texts
+--   goes_on column f                 the field leaves the column's type as it is
+--   Gains again before after fields  after is the column before behind these fields; where the records are
+--                                    read again, they tell no type, but give texts
+--   filled_vector column             the vector of the column's words
 use Rattle.std.specs.Prelude.{◌≡◌, ◌++◌, ℕ, Bool, true, false, List, [], All, length, map, replicate, if◌then◌else◌}
 use Rattle.std.specs.List.{list_all}
 use Rattle.csv_edge.specs.declared.filling.Filling.{Filling}

@@ -17,7 +17,8 @@ unread reader = source_of (λ text. Some text.now) reader
 -- the records that are not read
 abbrev pub left : Reader (Bor (List ℕ)) → List Record
 left reader =
-    records_from default_config (length (unwrap_or (unread reader) []) + 1) (reader_state reader) (unwrap_or (unread reader) [])
+    records_from default_config (length (unwrap_or (unread reader) []) + 1) (reader_state reader)
+    (unwrap_or (unread reader) [])
 
 -- the next read is of one record with csv's defaults, from a place between two records
 pub record IsOpen (reader : Reader (Bor (List ℕ))) : Type 0 where

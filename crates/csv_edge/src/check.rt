@@ -23,7 +23,8 @@ pub(crate) fn checked_header(raw: ByteRecord) -> Result<StringRecord, CsvFail>
 
 /// The same record as texts, if each field is UTF-8.
 fn texts(raw: ByteRecord) -> Option<StringRecord>
-    ensures { MatchOption result (list_all is_utf8 (fields_of raw) ≡ false) (λ row. (fields_of row ≡ fields_of raw) × (list_all is_utf8 (fields_of raw) ≡ true)) }
+    ensures { MatchOption result (list_all is_utf8 (fields_of raw) ≡ false)
+        (λ row. (fields_of row ≡ fields_of raw) × (list_all is_utf8 (fields_of raw) ≡ true)) }
 {
     StringRecord::from_byte_record(raw).ok()
 }

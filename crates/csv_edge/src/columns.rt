@@ -1,4 +1,5 @@
-ghost use Rattle.std.specs.Prelude.{◌≡◌, ◌<◌, ◌∷◌, ℕ, [], List, None, false, true, IfOk, OnOk, IfErr, length, vec_len, slice_index_or};
+ghost use Rattle.std.specs.Prelude.{◌≡◌, ◌<◌, ◌∷◌, ℕ, [], List, None, false, true, IfOk, OnOk};
+ghost use Rattle.std.specs.Prelude.{IfErr, length, vec_len, slice_index_or};
 ghost use Rattle.std.specs.List.{list_all};
 ghost use Rattle.std.specs.Str.{is_utf8};
 ghost use Rattle.csv.specs.Records.{fields_of};
@@ -17,9 +18,9 @@ use csv::{ByteRecord, Reader};
 use dt_base::limits::MAX_ROWS;
 use std::alloc::{AllocError, Global};
 
-/// The columns of all records that are left, so many as the header has fields, or the first fault of
-/// these records, in their order. These are the records below the header of the bytes; where a column
-/// turns out to be of texts behind its first field, they are read twice.
+/// The columns of all records that are left, so many as the header has fields, or the first fault
+/// of these records, in their order. These are the records below the header of the bytes; where a
+/// column turns out to be of texts behind its first field, they are read twice.
 pub(crate) fn gather_columns(
     alloc: Global,
     bytes: &[u8],
@@ -42,7 +43,9 @@ pub(crate) fn gather_columns(
 /// So many columns without fields.
 fn empty_columns(alloc: Global, width: usize) -> Result<Vec<Filling>, AllocError>
     ensures count { IfOk result (λ columns. vec_len columns ≡ width) }
-    ensures empty { IfOk result (λ columns. (c : ℕ) (d : Gathering) → c < width → slice_index_or columns.items c d ≡ Missing 0) }
+    ensures empty { IfOk result
+        (λ columns. (c : ℕ) (d : Gathering) → c < width
+        → slice_index_or columns.items c d ≡ Missing 0) }
 {
     let mut columns = Vec::with_capacity(alloc, width)?;
     for _ in 0..width {
@@ -61,7 +64,8 @@ fn push_row(
 ) -> Result<bool, AllocError>
     requires { length (fields_of row.now) ≡ length columns.old }
     ensures text { IfOk result (λ all. all ≡ list_all is_utf8 (fields_of row.now)) }
-    ensures fields { IfOk result (λ all. all ≡ true → AllGain again columns.old columns.new (fields_of row.now ∷ [])) }
+    ensures fields { IfOk result
+        (λ all. all ≡ true → AllGain again columns.old columns.new (fields_of row.now ∷ [])) }
 {
     let mut c: usize = 0;
     while let Some(field) = row.get(c) {
@@ -86,7 +90,8 @@ fn take_record(
     ensures right { OnOk result (row_fault (length columns.old) before (fields_of row.now) ≡ None) }
     ensures room { OnOk result (before < MAX_ROWS) }
     ensures fields { OnOk result (AllGain again columns.old columns.new (fields_of row.now ∷ [])) }
-    ensures refused { IfErr result (λ e. Tells e (row_fault (length columns.old) before (fields_of row.now))) }
+    ensures refused { IfErr result
+        (λ e. Tells e (row_fault (length columns.old) before (fields_of row.now))) }
 {
     if before >= MAX_ROWS {
         return Err(CsvFail::TooManyRows);
@@ -113,7 +118,8 @@ fn read_rows(
     requires { IsOpen reader.old }
     ensures right { OnOk result (rows_fault (length columns.old) 0 (left reader.old) ≡ None) }
     ensures fields { OnOk result (AllGain again columns.old columns.new (left reader.old)) }
-    ensures refused { IfErr result (λ e. Tells e (rows_fault (length columns.old) 0 (left reader.old))) }
+    ensures refused { IfErr result
+        (λ e. Tells e (rows_fault (length columns.old) 0 (left reader.old))) }
 {
     let mut row = ByteRecord::new(alloc);
     let mut before: usize = 0;
@@ -127,7 +133,8 @@ fn read_rows(
 /// Reads the records below the header once more, if a column was told late.
 fn read_late(alloc: Global, bytes: &[u8], columns: &mut [Filling]) -> Result<(), CsvFail>
     ensures fields { OnOk result (AllGain true columns.old columns.new (below bytes.now)) }
-    ensures refused { IfErr result (λ e. Tells e (rows_fault (length columns.old) 0 (below bytes.now))) }
+    ensures refused { IfErr result
+        (λ e. Tells e (rows_fault (length columns.old) 0 (below bytes.now))) }
 {
     if !has_late(columns) {
         return Ok(());
@@ -142,7 +149,9 @@ fn read_late(alloc: Global, bytes: &[u8], columns: &mut [Filling]) -> Result<(),
 
 /// Whether a column was told late. Where none was, the fields of a second reading change nothing.
 fn has_late(columns: &[Filling]) -> bool
-    ensures { result ≡ false → (c : ℕ) (d : Gathering) (fields : List (List ℕ)) → c < length columns.now → Gains true (slice_index_or columns.now c d) (slice_index_or columns.now c d) fields }
+    ensures { result ≡ false → (c : ℕ) (d : Gathering) (fields : List (List ℕ))
+        → c < length columns.now → Gains true (slice_index_or columns.now c d)
+        (slice_index_or columns.now c d) fields }
 {
     for c in 0..columns.len() {
         if is_late(&columns[c]) {

@@ -1,4 +1,5 @@
-ghost use Rattle.std.specs.Prelude.{◌≡◌, ◌+◌, ◌<◌, ◌++◌, ◌∷◌, ℕ, List, [], All, IfOk, OnOk, true, false, map, replicate};
+ghost use Rattle.std.specs.Prelude.{◌≡◌, ◌+◌, ◌<◌, ◌++◌, ◌∷◌, ℕ, List, [], All, IfOk, OnOk, true};
+ghost use Rattle.std.specs.Prelude.{false, map, replicate};
 ghost use Rattle.std.specs.Str.{is_utf8};
 ghost use Rattle.csv_edge.specs.Filling.{Gains, goes_on};
 ghost use Rattle.csv_edge.specs.declared.filling.Filling.TheVariants as so_far;
@@ -25,8 +26,8 @@ pub(crate) enum Filling {
     Late(Vec<Option<Text>>),
 }
 
-/// Takes the next field of a column, and tells whether it is UTF-8: its type and its word, or, where
-/// the records are read again, the text of a column that was told late.
+/// Takes the next field of a column, and tells whether it is UTF-8: its type and its word, or,
+/// where the records are read again, the text of a column that was told late.
 pub(crate) fn take(
     alloc: Global,
     column: &mut Filling,
@@ -34,7 +35,8 @@ pub(crate) fn take(
     again: bool,
 ) -> Result<bool, AllocError>
     ensures text { IfOk result (λ text. text ≡ is_utf8 field.now) }
-    ensures gains { IfOk result (λ text. text ≡ true → Gains again column.old column.new (field.now ∷ [])) }
+    ensures gains { IfOk result
+        (λ text. text ≡ true → Gains again column.old column.new (field.now ∷ [])) }
 {
     if again {
         take_text(alloc, column, field)
@@ -56,7 +58,8 @@ pub(crate) fn is_late(column: &Filling) -> bool
 /// Adds the text of a field to a column that was told late, and leaves any other.
 fn take_text(alloc: Global, column: &mut Filling, field: &[u8]) -> Result<bool, AllocError>
     ensures text { IfOk result (λ text. text ≡ is_utf8 field.now) }
-    ensures gains { IfOk result (λ text. text ≡ true → Gains true column.old column.new (field.now ∷ [])) }
+    ensures gains { IfOk result
+        (λ text. text ≡ true → Gains true column.old column.new (field.now ∷ [])) }
 {
     match column {
         Filling::Late(texts) => push_chr(alloc, texts, field),
@@ -70,7 +73,8 @@ fn take_text(alloc: Global, column: &mut Filling, field: &[u8]) -> Result<bool, 
 /// not.
 fn take_word(alloc: Global, column: &mut Filling, field: &[u8]) -> Result<bool, AllocError>
     ensures text { IfOk result (λ text. text ≡ is_utf8 field.now) }
-    ensures gains { IfOk result (λ text. text ≡ true → Gains false column.old column.new (field.now ∷ [])) }
+    ensures gains { IfOk result
+        (λ text. text ≡ true → Gains false column.old column.new (field.now ∷ [])) }
 {
     if push_word(alloc, column, field)? {
         return Ok(true);
@@ -82,8 +86,10 @@ fn take_word(alloc: Global, column: &mut Filling, field: &[u8]) -> Result<bool, 
 /// of another type than text is UTF-8, so only texts are looked at for that.
 fn push_word(alloc: Global, column: &mut Filling, field: &[u8]) -> Result<bool, AllocError>
     ensures text { IfOk result (λ took. took ≡ true → is_utf8 field.now ≡ true) }
-    ensures gains { IfOk result (λ took. took ≡ true → Gains false column.old column.new (field.now ∷ [])) }
-    ensures other { IfOk result (λ took. took ≡ false → is_utf8 field.now ≡ true → goes_on column.old field.now ≡ false) }
+    ensures gains { IfOk result
+        (λ took. took ≡ true → Gains false column.old column.new (field.now ∷ [])) }
+    ensures other { IfOk result
+        (λ took. took ≡ false → is_utf8 field.now ≡ true → goes_on column.old field.now ≡ false) }
     ensures same { IfOk result (λ took. took ≡ false → column.new ≡ column.old) }
 {
     match column {
@@ -100,7 +106,8 @@ fn push_word(alloc: Global, column: &mut Filling, field: &[u8]) -> Result<bool, 
 fn change(alloc: Global, column: &mut Filling, field: &[u8]) -> Result<bool, AllocError>
     requires { is_utf8 field.now ≡ true → goes_on column.old field.now ≡ false }
     ensures text { IfOk result (λ text. text ≡ is_utf8 field.now) }
-    ensures gains { IfOk result (λ text. text ≡ true → Gains false column.old column.new (field.now ∷ [])) }
+    ensures gains { IfOk result
+        (λ text. text ≡ true → Gains false column.old column.new (field.now ∷ [])) }
 {
     let Some(text) = text_of(field) else {
         return Ok(false);
@@ -129,8 +136,11 @@ fn count_missing(count: &mut usize, field: &[u8]) -> Result<bool, AllocError>
 /// Adds the word of a field that suits a column of logicals.
 fn push_lgl(words: &mut Vec<u8>, field: &[u8]) -> Result<bool, AllocError>
     ensures suits { IfOk result (λ suited. suited ≡ cells.suits ty.Lgl field.now) }
-    ensures cells { IfOk result (λ suited. suited ≡ true → map lgl_cell words.new.items ≡ map lgl_cell words.old.items ++ cells.field_cell ty.Lgl field.now ∷ []) }
-    ensures words { IfOk result (λ suited. suited ≡ true → All IsLglWord words.old.items → All IsLglWord words.new.items) }
+    ensures cells { IfOk result
+        (λ suited. suited ≡ true → map lgl_cell words.new.items ≡ map lgl_cell words.old.items
+        ++ cells.field_cell ty.Lgl field.now ∷ []) }
+    ensures words { IfOk result
+        (λ suited. suited ≡ true → All IsLglWord words.old.items → All IsLglWord words.new.items) }
     ensures same { IfOk result (λ suited. suited ≡ false → words.new ≡ words.old) }
 {
     let Some(word) = lgl_word(field) else {
@@ -143,7 +153,9 @@ fn push_lgl(words: &mut Vec<u8>, field: &[u8]) -> Result<bool, AllocError>
 /// Adds the word of a field that suits a column of integers.
 fn push_int(words: &mut Vec<i64>, field: &[u8]) -> Result<bool, AllocError>
     ensures suits { IfOk result (λ suited. suited ≡ cells.suits ty.Int field.now) }
-    ensures cells { IfOk result (λ suited. suited ≡ true → map int_cell words.new.items ≡ map int_cell words.old.items ++ cells.field_cell ty.Int field.now ∷ []) }
+    ensures cells { IfOk result
+        (λ suited. suited ≡ true → map int_cell words.new.items ≡ map int_cell words.old.items
+        ++ cells.field_cell ty.Int field.now ∷ []) }
     ensures same { IfOk result (λ suited. suited ≡ false → words.new ≡ words.old) }
 {
     let Some(word) = int_word(field) else {
@@ -158,7 +170,9 @@ fn push_int(words: &mut Vec<i64>, field: &[u8]) -> Result<bool, AllocError>
 #[inline(never)]
 fn push_chr(alloc: Global, texts: &mut Vec<Option<Text>>, field: &[u8]) -> Result<bool, AllocError>
     ensures text { IfOk result (λ took. took ≡ is_utf8 field.now) }
-    ensures cells { IfOk result (λ took. took ≡ true → map text_cell texts.new.items ≡ map text_cell texts.old.items ++ cells.field_cell ty.Chr field.now ∷ []) }
+    ensures cells { IfOk result
+        (λ took. took ≡ true → map text_cell texts.new.items ≡ map text_cell texts.old.items
+        ++ cells.field_cell ty.Chr field.now ∷ []) }
     ensures same { IfOk result (λ took. took ≡ false → texts.new ≡ texts.old) }
 {
     let Some(text) = text_of(field) else {
@@ -170,7 +184,8 @@ fn push_chr(alloc: Global, texts: &mut Vec<Option<Text>>, field: &[u8]) -> Resul
 
 /// Adds the text of a field.
 fn push_text(alloc: Global, texts: &mut Vec<Option<Text>>, field: &str) -> Result<(), AllocError>
-    ensures { OnOk result (map text_cell texts.new.items ≡ map text_cell texts.old.items ++ cells.field_cell ty.Chr field.now ∷ []) }
+    ensures { OnOk result (map text_cell texts.new.items ≡ map text_cell texts.old.items
+        ++ cells.field_cell ty.Chr field.now ∷ []) }
 {
     let text = text_word(alloc, field)?;
     texts.push(text)?;

@@ -12,9 +12,11 @@ use std::alloc::{AllocError, Global};
 /// The frame of these columns.
 pub(crate) fn frame_of(alloc: Global, columns: Vec<Filling>) -> Result<Frame, AllocError>
     requires sound { All IsSound columns.items }
-    requires one_length { All (λ column. length (filled_vector column).cells ≡ first_length columns.items) columns.items }
+    requires one_length { All (λ column. length (filled_vector column).cells
+        ≡ first_length columns.items) columns.items }
     requires short { first_length columns.items ≤ MAX_ROWS }
-    ensures vectors { IfOk result (λ frame. vectors_of frame.columns ≡ map filled_vector columns.items) }
+    ensures vectors { IfOk result
+        (λ frame. vectors_of frame.columns ≡ map filled_vector columns.items) }
     ensures rows { IfOk result (λ frame. frame.rows ≡ first_length columns.items) }
 {
     let mut frame = Frame::new(alloc);

@@ -26,11 +26,12 @@ use std::sync::ledger::Ledger;
 /// depends on all its fields. A name that is not its header is told by W06.
 ///
 /// The first record at fault decides, in their order: a header of more than 4,096 fields; one row
-/// more than 16,777,216; a record with another number of fields than the header; a field that is not
-/// UTF-8. Within a record they are looked at in this order. Records count from 1 with the header.
+/// more than 16,777,216; a record with another number of fields than the header; a field that is
+/// not UTF-8. Within a record they are looked at in this order. Records count from 1 with the
+/// header.
 ///
-/// It touches no cell. Its time is linear in the bytes. Its memory is the table's, and while a record
-/// is read its bytes and at most 24 for each of its fields.
+/// It touches no cell. Its time is linear in the bytes. Its memory is the table's, and while a
+/// record is read its bytes and at most 24 for each of its fields.
 ///
 /// dtq's own rule, docs/LANGUAGE.md, section "CSV files".
 pub fn read_table<L: Ledger>(
@@ -62,9 +63,12 @@ fn read_below(
     requires open { IsOpen reader.old }
     requires below { left reader.old ≡ below bytes.now }
     requires some { 0 < length (fields_of header) }
-    requires cells { file.rows_fault (length (fields_of header)) 0 (below bytes.now) ≡ None → length (below bytes.now) * length (fields_of header) ≤ MAX_CELLS }
-    ensures table { IfOk result (λ p. file.read_records (fields_of header ∷ below bytes.now) ≡ Ok (plain p.0, p.1)) }
-    ensures refused { IfErr result (λ e. Refuses e (file.read_records (fields_of header ∷ below bytes.now))) }
+    requires cells { file.rows_fault (length (fields_of header)) 0 (below bytes.now) ≡ None
+        → length (below bytes.now) * length (fields_of header) ≤ MAX_CELLS }
+    ensures table { IfOk result
+        (λ p. file.read_records (fields_of header ∷ below bytes.now) ≡ Ok (plain p.0, p.1)) }
+    ensures refused { IfErr result
+        (λ e. Refuses e (file.read_records (fields_of header ∷ below bytes.now))) }
 {
     let header = checked_header(header)?;
     let columns = gather_columns(alloc, bytes, reader, header.len())?;

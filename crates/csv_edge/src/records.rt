@@ -26,7 +26,9 @@ pub(crate) fn next_record(
 ) -> Result<bool, AllocError>
     requires { IsOpen reader.old }
     ensures open { IfOk result (λ found. found ≡ true → IsOpen reader.new) }
-    ensures record { IfOk result (λ found. MatchBool found (left reader.old ≡ fields_of row.new ∷ left reader.new) (left reader.old ≡ [])) }
+    ensures record { IfOk result
+        (λ found. MatchBool found (left reader.old ≡ fields_of row.new ∷ left reader.new)
+        (left reader.old ≡ [])) }
 {
     match reader.read_byte_record(row) {
         Ok(found) => Ok(found),

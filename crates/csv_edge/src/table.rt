@@ -6,10 +6,10 @@ ghost use Rattle.dt_table.specs.Table.{made};
 ghost use Rattle.dt_model.specs.Table.{no_table};
 ghost use Rattle.run_model.specs.CsvNames as file;
 
-use crate::names::{column_names, name_warns};
 use csv::StringRecord;
 use dt_base::Warns;
 use dt_table::{MakeFail, Table};
+use header_names::{column_names, name_warns};
 use na_vector::Frame;
 use std::alloc::{AllocError, Global};
 

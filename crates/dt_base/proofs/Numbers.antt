@@ -1,6 +1,7 @@
 -- The limits as numbers, each computed: clauses name them, so nothing else sees their values.
 use Rattle.std.proofs.Common.{◌≡◌, pos, negsuc, refl}
-use Rattle.dt_base.specs.declared.limits.TheConstants.{MAX_SCRIPT_BYTES, MAX_FILE_BYTES, MAX_ROWS, MAX_CELLS, MAX_COLUMNS, SPARE_COLUMNS, MAX_NESTING, MAX_INTEGER, NA_WORD}
+use Rattle.dt_base.specs.declared.limits.TheConstants.{MAX_SCRIPT_BYTES, MAX_FILE_BYTES, MAX_ROWS, MAX_CELLS}
+use Rattle.dt_base.specs.declared.limits.TheConstants.{MAX_COLUMNS, SPARE_COLUMNS, MAX_NESTING, MAX_INTEGER, NA_WORD}
 
 script_limit : MAX_SCRIPT_BYTES ≡ 1048576
 script_limit = refl

@@ -2,10 +2,12 @@
 ghost use Rattle.std.specs.Prelude.{◌≡◌, IfOk, IsErr, MatchResult, map, string_bytes};
 ghost use Rattle.std.specs.Vec.Iter.{into_iter_items};
 ghost use Rattle.std.specs.IoError.{error_kind};
+ghost use Rattle.file_value.specs.Reads.{files_seen};
 ghost use Rattle.session_model.specs.World.{world};
+ghost use Rattle.dt_session.specs.Outside.{outside, sink_seen};
+ghost use Rattle.dt_run.specs.Ending.{IsRun};
 ghost use Rattle.dt_run.specs.Exit.{exit_number};
-ghost use Rattle.stmt_value.specs.Reads.{files_seen};
-ghost use Rattle.dt_cli.specs.Ending.{IsNumberOf, IsRun, outside, sink_seen, wordless, words_behind};
+ghost use Rattle.dt_cli.specs.Ending.{IsNumberOf, wordless, words_behind};
 
 use dt_base::Steps;
 use dt_run::{Status, run};
@@ -18,7 +20,8 @@ use std::sync::ledger::Ledger;
 
 /// The words after the program's name.
 fn words_after_name(alloc: Global, all: Args) -> Result<Vec<String>, AllocError>
-    ensures { IfOk result (λ v. map string_bytes v.items ≡ words_behind (map string_bytes (into_iter_items all))) }
+    ensures { IfOk result (λ v.
+        map string_bytes v.items ≡ words_behind (map string_bytes (into_iter_items all))) }
 {
     all.skip(1).collect(alloc)
 }

@@ -33,15 +33,18 @@ name_layer : (t : Expr) (l : Layer) → roll-Expr l ≡ t → ((x : Word) → t 
 name_layer t (layer.Name x) e h = absurd (h x (sym e ∙ code.rolls-Name x))
 name_layer t _ e h = refl
 
-chain_layer : (t : Expr) (l : Layer) → roll-Expr l ≡ t → ((u : Expr) (rest : List Tail) → t ≢ code.Chain u rest) → is_chain (seen_layer l) ≡ false
+chain_layer : (t : Expr) (l : Layer) → roll-Expr l ≡ t → ((u : Expr) (rest : List Tail) → t ≢ code.Chain u rest)
+    → is_chain (seen_layer l) ≡ false
 chain_layer t (layer.Chain u rest) e h = absurd (h u rest (sym e ∙ code.rolls-Chain u rest))
 chain_layer t _ e h = refl
 
-call_layer : (t : Expr) (l : Layer) → roll-Expr l ≡ t → ((x : Word) (args : List Arg) → t ≢ code.Call x args) → is_call (seen_layer l) ≡ false
+call_layer : (t : Expr) (l : Layer) → roll-Expr l ≡ t → ((x : Word) (args : List Arg) → t ≢ code.Call x args)
+    → is_call (seen_layer l) ≡ false
 call_layer t (layer.Call x args) e h = absurd (h x args (sym e ∙ code.rolls-Call x args))
 call_layer t _ e h = refl
 
-query_layer : (t : Expr) (l : Layer) → roll-Expr l ≡ t → ((u : Expr) (bs : List Bracket) → t ≢ code.Query u bs) → is_query (seen_layer l) ≡ false
+query_layer : (t : Expr) (l : Layer) → roll-Expr l ≡ t → ((u : Expr) (bs : List Bracket) → t ≢ code.Query u bs)
+    → is_query (seen_layer l) ≡ false
 query_layer t (layer.Query u bs) e h = absurd (h u bs (sym e ∙ code.rolls-Query u bs))
 query_layer t _ e h = refl
 

@@ -9,8 +9,11 @@ use Rattle.dt_tree.specs.declared.tree.Arg.{Arg}
 use Rattle.dt_tree.specs.declared.tree.Bracket.{Bracket, roll-Bracket}
 use Rattle.dt_tree.specs.declared.tree.Second.{Second}
 use Rattle.dt_tree.specs.declared.tree.Second.TheVariants as second
-use Rattle.run_model.specs.GrammarTrees.{Word, Typed, Null, Infinite, Not, Negate, Lit, Var, Paren, Unary, Chain, Call, Query, Formula, Tails, NoTails, MoreTails, Args, NoArgs, MoreArgs, Given, Assigns, AssignsAll, Brackets, NoBrackets, MoreBrackets}
-use Rattle.run_model.specs.TreeView.{tails_from, args_from, brackets_from, tree_of, item_of_second, arg_of, bracket_of, tail_of, tails_of, args_of, brackets_of, first_of, second_of}
+use Rattle.run_model.specs.GrammarTrees.{Word, Typed, Null, Infinite, Not, Negate, Lit, Var, Paren, Unary, Chain, Call}
+use Rattle.run_model.specs.GrammarTrees.{Query, Formula, Tails, NoTails, MoreTails, Args, NoArgs, MoreArgs, Given}
+use Rattle.run_model.specs.GrammarTrees.{Assigns, AssignsAll, Brackets, NoBrackets, MoreBrackets}
+use Rattle.run_model.specs.TreeView.{tails_from, args_from, brackets_from, tree_of, item_of_second, arg_of, bracket_of}
+use Rattle.run_model.specs.TreeView.{tail_of, tails_of, args_of, brackets_of, first_of, second_of}
 
 pub tree_of-Lit : (c : Cell) (k : ColType) → tree_of (code.Lit c k) ≡ Lit (Typed c k)
 unfolding tree_of item_of_second arg_of bracket_of tail_of
@@ -76,31 +79,62 @@ pub arg_of_is : (a : Arg) → arg_of a ≡ (a.name, tree_of a.value)
 unfolding tree_of item_of_second arg_of bracket_of tail_of
 arg_of_is a = search (rules, the_lemmas)
 
-pub bracket_of-roll : (a : Option Expr) (j : Option Second) (b : Option Expr) (args : List Arg) → bracket_of (roll-Bracket (record { first = a; second = j; third = b; args = args })) ≡ record { first = first_of a; second = second_of j; third = first_of b; args = args_of args }
+pub bracket_of-roll : (a : Option Expr) (j : Option Second) (b : Option Expr) (args : List Arg)
+    → bracket_of (roll-Bracket (record { first = a; second = j; third = b; args = args })) ≡ record {
+      first = first_of a;
+      second = second_of j;
+      third = first_of b;
+      args = args_of args;
+    }
 unfolding tree_of item_of_second arg_of bracket_of tail_of
 bracket_of-roll a j b args = search (rules, the_lemmas)
 
 -- one more at the end of a list
-tails_push : (before : Tails) (rest : List Tail) (x : Tail) → tails_from before (map tail_of (rest ++ x ∷ [])) ≡ MoreTails (tails_from before (map tail_of rest)) x.op (tree_of x.arg)
+tails_push : (before : Tails) (rest : List Tail) (x : Tail)
+    → tails_from before (map tail_of (rest ++ x ∷ []))
+    ≡ MoreTails (tails_from before (map tail_of rest)) x.op (tree_of x.arg)
 tails_push before [] x = ap (λ y. tails_from before (y ∷ [])) (tail_of_is x)
 tails_push before (y ∷ rest) x = tails_push (MoreTails before (tail_of y).0 (tail_of y).1) rest x
 
-pub tails_of-push : (rest : List Tail) (x : Tail) → tails_of (rest ++ x ∷ []) ≡ MoreTails (tails_of rest) x.op (tree_of x.arg)
+pub tails_of-push : (rest : List Tail) (x : Tail)
+    → tails_of (rest ++ x ∷ []) ≡ MoreTails (tails_of rest) x.op (tree_of x.arg)
 tails_of-push rest x = tails_push NoTails rest x
 
-args_push : (before : Args) (args : List Arg) (x : Arg) → args_from before (map arg_of (args ++ x ∷ [])) ≡ MoreArgs (args_from before (map arg_of args)) x.name (tree_of x.value)
+args_push : (before : Args) (args : List Arg) (x : Arg)
+    → args_from before (map arg_of (args ++ x ∷ []))
+    ≡ MoreArgs (args_from before (map arg_of args)) x.name (tree_of x.value)
 args_push before [] x = ap (λ y. args_from before (y ∷ [])) (arg_of_is x)
 args_push before (y ∷ args) x = args_push (MoreArgs before (arg_of y).0 (arg_of y).1) args x
 
-pub args_of-push : (args : List Arg) (x : Arg) → args_of (args ++ x ∷ []) ≡ MoreArgs (args_of args) x.name (tree_of x.value)
+pub args_of-push : (args : List Arg) (x : Arg)
+    → args_of (args ++ x ∷ []) ≡ MoreArgs (args_of args) x.name (tree_of x.value)
 args_of-push args x = args_push NoArgs args x
 
-brackets_push : (before : Brackets) (bs : List Bracket) (x : Bracket) → brackets_from before (map bracket_of (bs ++ x ∷ [])) ≡ (let b = bracket_of x in MoreBrackets (brackets_from before (map bracket_of bs)) b.first b.second b.third b.args)
+brackets_push : (before : Brackets) (bs : List Bracket) (x : Bracket)
+    → brackets_from before (map bracket_of (bs ++ x ∷ []))
+    ≡ (let b = bracket_of x in MoreBrackets (brackets_from before (map bracket_of bs)) b.first b.second b.third b.args)
 brackets_push before [] x = refl
-brackets_push before (y ∷ bs) x = let b = bracket_of y in brackets_push (MoreBrackets before b.first b.second b.third b.args) bs x
+brackets_push before (y ∷ bs) x = let b = bracket_of y in
+    brackets_push (MoreBrackets before b.first b.second b.third b.args) bs x
 
-pub brackets_of-push : (bs : List Bracket) (x : Bracket) → brackets_of (bs ++ x ∷ []) ≡ (let b = bracket_of x in MoreBrackets (brackets_of bs) b.first b.second b.third b.args)
+pub brackets_of-push : (bs : List Bracket) (x : Bracket)
+    → brackets_of (bs ++ x ∷ []) ≡ (let b = bracket_of x in
+    MoreBrackets (brackets_of bs) b.first b.second b.third b.args)
 brackets_of-push bs x = brackets_push NoBrackets bs x
 
 -- the view of what the code makes
-pub ruleset trees = (tree_of-Lit, tree_of-Null, tree_of-Infinite, tree_of-Name, tree_of-Paren, tree_of-Minus, tree_of-Not, tree_of-Chain, tree_of-Call, tree_of-Query, tree_of-Formula, tails_of-push, args_of-push)
+pub ruleset trees = (
+  tree_of-Lit,
+  tree_of-Null,
+  tree_of-Infinite,
+  tree_of-Name,
+  tree_of-Paren,
+  tree_of-Minus,
+  tree_of-Not,
+  tree_of-Chain,
+  tree_of-Call,
+  tree_of-Query,
+  tree_of-Formula,
+  tails_of-push,
+  args_of-push,
+)

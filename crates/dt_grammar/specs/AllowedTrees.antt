@@ -11,7 +11,9 @@
 use Rattle.std.specs.Prelude.{◌≡◌, ◌≢◌, ℕ, suc, ◌≤◌, false, List, [], ◌∷◌, Some, None, ◌⊎◌}
 use Rattle.dt_base.specs.declared.cell.Cell.TheVariants as cell
 use Rattle.dt_base.specs.declared.cell.ColType.TheVariants as ty
-use Rattle.run_model.specs.GrammarTrees.{Value, Typed, Null, Infinite, Tree, Lit, Var, Paren, Unary, Chain, Call, Query, Formula, Tails, NoTails, MoreTails, Args, NoArgs, MoreArgs, Item, Absent, Given, Assigns, AssignsAll, Brackets, NoBrackets, MoreBrackets, Stmt}
+use Rattle.run_model.specs.GrammarTrees.{Value, Typed, Null, Infinite, Tree, Lit, Var, Paren, Unary, Chain, Call, Query}
+use Rattle.run_model.specs.GrammarTrees.{Formula, Tails, NoTails, MoreTails, Args, NoArgs, MoreArgs, Item, Absent}
+use Rattle.run_model.specs.GrammarTrees.{Given, Assigns, AssignsAll, Brackets, NoBrackets, MoreBrackets, Stmt}
 use Rattle.run_model.specs.Grammar.{level, is_single, prefix_level, post, prim, as_j}
 
 -- a literal's cell is NA or of its type
@@ -51,7 +53,8 @@ abbrev mutual
   pub AreTails : ℕ → Tails → Type 0
   AreTails l NoTails = ⊥
   AreTails l (MoreTails NoTails op t) = (level op ≡ l) × IsAllowed (suc l) t
-  AreTails l (MoreTails (MoreTails before o u) op t) = (level op ≡ l) × (is_single op ≡ false) × AreTails l (MoreTails before o u) × IsAllowed (suc l) t
+  AreTails l (MoreTails (MoreTails before o u) op t) = (level op ≡ l) × (is_single op ≡ false)
+      × AreTails l (MoreTails before o u) × IsAllowed (suc l) t
 
   pub AreArgs : Args → Type 0
   AreArgs NoArgs = Unit {0}
@@ -78,7 +81,8 @@ abbrev mutual
   pub AreBrackets : Brackets → Type 0
   AreBrackets NoBrackets = ⊥
   AreBrackets (MoreBrackets NoBrackets i j by args) = IsPlain i × IsSecond j × IsPlain by × AreNamed args
-  AreBrackets (MoreBrackets (MoreBrackets before i' j' by' args') i j by args) = AreBrackets (MoreBrackets before i' j' by' args') × IsPlain i × IsSecond j × IsPlain by × AreNamed args
+  AreBrackets (MoreBrackets (MoreBrackets before i' j' by' args') i j by args) =
+      AreBrackets (MoreBrackets before i' j' by' args') × IsPlain i × IsSecond j × IsPlain by × AreNamed args
 
 -- Each statement is an expression of any level.
 abbrev pub AreStmts : List Stmt → Type 0

@@ -6,12 +6,17 @@
 --   init             the state before the first token
 --   finish s         the script, where the tokens end here
 --   parsed ts        the script that the tokens spell, by the machine
-use Rattle.std.specs.Prelude.{ℕ, suc, Bool, true, false, List, [], ◌∷◌, ◌++◌, Option, Some, None, nat_le, if◌then◌else◌, option_and_then, option_map, ◌==◌}
+use Rattle.std.specs.Prelude.{ℕ, suc, Bool, true, false, List, [], ◌∷◌, ◌++◌, Option, Some, None, nat_le, if◌then◌else◌}
+use Rattle.std.specs.Prelude.{option_and_then, option_map, ◌==◌}
 use Rattle.dt_base.specs.declared.operators.Op.TheVariants.{Add, Sub}
 use Rattle.dt_tree.specs.declared.tree.BinOp.{BinOp}
 use Rattle.dt_tree.specs.declared.tree.BinOp.TheVariants.{Arith}
-use Rattle.run_model.specs.GrammarTrees.{Word, Prefix, Not, Negate, Token, Name, Literal, Operator, Bang, Tilde, Assign, Arrow, Is, Open, Shut, OpenSquare, ShutSquare, Comma, Break, Tree, Lit, Var, Paren, Unary, Chain, Tails, NoTails, MoreTails, Call, Query, Formula, Args, NoArgs, MoreArgs, Absent, Assigns, Brackets, NoBrackets, Stmt}
-use Rattle.run_model.specs.Grammar.{level, is_single, prefix_level, Filled, Nothing, takes_unnamed, is_j, with_item, with_name, with_bracket, item_of}
+use Rattle.run_model.specs.GrammarTrees.{Word, Prefix, Not, Negate, Token, Name, Literal, Operator, Bang, Tilde, Assign}
+use Rattle.run_model.specs.GrammarTrees.{Arrow, Is, Open, Shut, OpenSquare, ShutSquare, Comma, Break, Tree, Lit, Var}
+use Rattle.run_model.specs.GrammarTrees.{Paren, Unary, Chain, Tails, NoTails, MoreTails, Call, Query, Formula, Args}
+use Rattle.run_model.specs.GrammarTrees.{NoArgs, MoreArgs, Absent, Assigns, Brackets, NoBrackets, Stmt}
+use Rattle.run_model.specs.Grammar.{level, is_single, prefix_level, Filled, Nothing, takes_unnamed, is_j, with_item}
+use Rattle.run_model.specs.Grammar.{with_name, with_bracket, item_of}
 
 -- what stands before a bracket: the head of a query, and the brackets behind it so far
 pub record Head : Type 0 where
@@ -60,7 +65,8 @@ demand _ = 0
 -- ends the operators that bind at least as tightly as k
 abbrev pub close : ℕ → List Frame → Tree → List Frame × Tree
 close k (Front p ∷ rest) t = if nat_le k (prefix_level p) then close k rest (Unary p t) else (Front p ∷ rest, t)
-close k (Left l tails op ∷ rest) t = if nat_le k (level op) then close k rest (Chain l (MoreTails tails op t)) else (Left l tails op ∷ rest, t)
+close k (Left l tails op ∷ rest) t = if nat_le k (level op) then close k rest (Chain l (MoreTails tails op t)) else
+    (Left l tails op ∷ rest, t)
 close k frames t = (frames, t)
 
 -- a one-sided operator
@@ -136,7 +142,8 @@ comma (f ∷ rest, t) = comma_item f rest t
 
 -- a break behind an expression
 abbrev pub break : ℕ → List Frame × Tree → Option State
-break m (InStmt ss n o ∷ rest, t) = Some (Want (InStmt (ss ++ record { line = n; target = o; expr = t } ∷ []) m None ∷ rest))
+break m (InStmt ss n o ∷ rest, t) = Some
+    (Want (InStmt (ss ++ record { line = n; target = o; expr = t } ∷ []) m None ∷ rest))
 break m _ = None
 
 -- ":=" behind an expression

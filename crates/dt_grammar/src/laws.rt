@@ -1,4 +1,5 @@
-ghost use Rattle.dt_grammar.specs.Laws.{OneScript, OneCodeScript, EachIsSpelled, EachIsAllowed, EachIsAnswered, OneFault, MarksInStep};
+ghost use Rattle.dt_grammar.specs.Laws.{OneScript, OneCodeScript, EachIsSpelled, EachIsAllowed};
+ghost use Rattle.dt_grammar.specs.Laws.{EachIsAnswered, OneFault, MarksInStep};
 
 /// Tokens spell one script at most.
 pub fn one_script()

@@ -1,7 +1,9 @@
 ghost use Rattle.std.specs.Prelude.{◌≡◌, ◌∷◌, [], ◌++◌, OnOk};
 ghost use Rattle.run_model.specs.Grammar.{is_assign};
-ghost use Rattle.run_model.specs.Misplaced.{name_flags, target_flags, names_flags, inner, inner_tails, inner_args, inner_item, inner_brackets};
-ghost use Rattle.run_model.specs.TreeView.{tree_of, item_of_second, tails_of, args_of, brackets_of, first_of, second_of};
+ghost use Rattle.run_model.specs.Misplaced.{name_flags, target_flags, names_flags, inner};
+ghost use Rattle.run_model.specs.Misplaced.{inner_tails, inner_args, inner_item, inner_brackets};
+ghost use Rattle.run_model.specs.TreeView.{tree_of, item_of_second, tails_of, args_of, brackets_of};
+ghost use Rattle.run_model.specs.TreeView.{first_of, second_of};
 
 use dt_base::Text;
 use dt_tree::{Arg, Bracket, Expr, Second, Tail};
@@ -115,7 +117,8 @@ pub fn walk_args(flags: &mut Vec<bool>, args: &[Arg]) -> Result<(), AllocError>
 #[cycle(walk)]
 #[tactic(auto, using(crate::proofs::Walk::walking))]
 fn walk_brackets(flags: &mut Vec<bool>, brackets: &[Bracket]) -> Result<(), AllocError>
-    ensures { OnOk result (flags.new.items ≡ flags.old.items ++ inner_brackets (brackets_of brackets.now)) }
+    ensures { OnOk result (flags.new.items ≡ flags.old.items
+        ++ inner_brackets (brackets_of brackets.now)) }
 {
     for bracket in brackets {
         push(flags, false)?;

@@ -1,7 +1,8 @@
 ghost use Rattle.std.specs.Prelude.{◌≡◌, ◌++◌, IfOk, OnOk};
 ghost use Rattle.run_model.specs.Misplaced as spec;
 ghost use Rattle.run_model.specs.TokenView.{plain_token, plain_tokens};
-ghost use Rattle.run_model.specs.TreeView.{tree_of, item_of_second, args_of, brackets_of, first_of, second_of, stmts_of, script_of};
+ghost use Rattle.run_model.specs.TreeView.{tree_of, item_of_second, args_of, brackets_of, first_of};
+ghost use Rattle.run_model.specs.TreeView.{second_of, stmts_of, script_of};
 ghost use Rattle.dt_tree.specs.declared.tree.Bracket.{out-Bracket};
 ghost use Rattle.dt_misplaced.specs.Stages.{stage_of};
 
@@ -30,7 +31,8 @@ pub fn misplaced_at(
     tokens: &[Placed],
     script: &Script,
 ) -> Result<Option<usize>, AllocError>
-    ensures { IfOk result (λ at. at ≡ spec.misplaced (plain_tokens tokens.now) (script_of script.now)) }
+    ensures { IfOk result (λ at. at
+        ≡ spec.misplaced (plain_tokens tokens.now) (script_of script.now)) }
 {
     let mut flags = Vec::new(alloc);
     walk_stmts(&mut flags, script.stmts.as_slice())?;
@@ -63,7 +65,8 @@ fn walk_outer(flags: &mut Vec<bool>, expr: &Expr) -> Result<(), AllocError>
 
 /// The flags of the brackets of an outermost chain.
 fn walk_chain(flags: &mut Vec<bool>, brackets: &[Bracket]) -> Result<(), AllocError>
-    ensures { OnOk result (flags.new.items ≡ flags.old.items ++ spec.outer_brackets (brackets_of brackets.now)) }
+    ensures { OnOk result (flags.new.items ≡ flags.old.items
+        ++ spec.outer_brackets (brackets_of brackets.now)) }
 {
     let mut stage = Stage::Free;
     for bracket in brackets {
@@ -107,7 +110,9 @@ fn second_stage(j: &Second) -> Stage
 /// The flags of a bracket of an outermost chain, which has come this far before it.
 fn walk_bracket(flags: &mut Vec<bool>, bracket: &Bracket, stage: Stage) -> Result<(), AllocError>
     ensures { let b = out-Bracket bracket.now in
-        OnOk result (flags.new.items ≡ flags.old.items ++ spec.bracket_flags (stage_of stage) (first_of b.first) (second_of b.second) (first_of b.third) (args_of b.args)) }
+        OnOk result (flags.new.items ≡ flags.old.items
+        ++ spec.bracket_flags (stage_of stage) (first_of b.first) (second_of b.second)
+        (first_of b.third) (args_of b.args)) }
 {
     match stage {
         Stage::Free => {
@@ -133,7 +138,8 @@ fn walk_bracket(flags: &mut Vec<bool>, bracket: &Bracket, stage: Stage) -> Resul
 /// Whether nothing stands in the bracket.
 fn is_empty(bracket: &Bracket) -> bool
     ensures { let b = out-Bracket bracket.now in
-        result ≡ spec.is_empty (first_of b.first) (second_of b.second) (first_of b.third) (args_of b.args) }
+        result ≡ spec.is_empty (first_of b.first) (second_of b.second) (first_of b.third)
+        (args_of b.args) }
 {
     if bracket.first.is_some() {
         return false;
@@ -159,7 +165,8 @@ fn walk_free(flags: &mut Vec<bool>, j: &Option<Second>) -> Result<(), AllocError
 
 #[tactic(auto, using(crate::proofs::Chains::free))]
 fn walk_free_j(flags: &mut Vec<bool>, j: &Second) -> Result<(), AllocError>
-    ensures { OnOk result (flags.new.items ≡ flags.old.items ++ spec.j_flags (item_of_second j.now)) }
+    ensures { OnOk result (flags.new.items ≡ flags.old.items
+        ++ spec.j_flags (item_of_second j.now)) }
 {
     match j {
         Second::Value(expr) => walk(flags, expr),

@@ -10,7 +10,9 @@
 --   unary o a              an operation on one vector
 --   chosen test a b        for each place the cell of a or that of b: `fifelse`
 --   contained a b          for each cell of a whether b has it: `%in%`
-use Rattle.std.specs.Prelude.{ℕ, ◌/◌, ◌^◌, ℤ, pos, negsuc, neg_ℤ, ◌+ℤ◌, ◌-ℤ◌, ◌*ℤ◌, unsigned_abs, Bool, true, false, not, ◌||◌, ◌==◌, nat_lt, if◌then◌else◌, List, length, map, position, Option, None, Some, Result, Ok, Err}
+use Rattle.std.specs.Prelude.{ℕ, ◌/◌, ◌^◌, ℤ, pos, negsuc, neg_ℤ, ◌+ℤ◌, ◌-ℤ◌, ◌*ℤ◌, unsigned_abs, Bool, true, false}
+use Rattle.std.specs.Prelude.{not, ◌||◌, ◌==◌, nat_lt, if◌then◌else◌, List, length, map, position, Option, None, Some}
+use Rattle.std.specs.Prelude.{Result, Ok, Err}
 use Rattle.std.specs.List.{list_any, range_with_len}
 use Rattle.std.specs.Cmp.Lexicographic.{slice_cmp}
 use Rattle.std.specs.Str.{bytes_eq}
@@ -288,7 +290,8 @@ chosen test a b =
     else (if not (goes_with n (length b.cells)) then Err (Length n (length b.cells))
     else Ok (record {
       kind = t;
-      cells = at_places n (λ p. picked_by (cell_at test.cells p) (brought t (cell_for a.cells p)) (brought t (cell_for b.cells p)));
+      cells = at_places n (λ p. picked_by (cell_at test.cells p) (brought t (cell_for a.cells p))
+          (brought t (cell_for b.cells p)));
     })))
 
 abbrev pub same_truth : Bool → Bool → Bool

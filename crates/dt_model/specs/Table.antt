@@ -13,7 +13,8 @@
 --   place_of name names    the first place of a name, if it is there
 --   is_repeated names c    whether the name at place c stands at a lesser place too
 --   first_repeated names   the least such place
-use Rattle.std.specs.Prelude.{ℕ, ◌+◌, ◌*◌, nat_lt, Bool, if◌then◌else◌, List, [], ◌∷◌, Option, None, Some, map, take, find, position, slice_index_or, length}
+use Rattle.std.specs.Prelude.{ℕ, ◌+◌, ◌*◌, nat_lt, Bool, if◌then◌else◌, List, [], ◌∷◌, Option, None, Some, map, take}
+use Rattle.std.specs.Prelude.{find, position, slice_index_or, length}
 use Rattle.std.specs.List.{range_with_len, list_any}
 use Rattle.std.specs.Str.{bytes_eq}
 use Rattle.dt_base.specs.declared.cell.Cell.{Cell}

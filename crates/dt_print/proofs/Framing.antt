@@ -1,5 +1,6 @@
 -- A frame's columns, and the heads and rows that they are seen as.
-use Rattle.std.proofs.Common.{◌≡◌, ◌∙◌, ℕ, zero, suc, ◌+◌, ◌-◌, ◌<◌, max, List, [], ◌∷◌, ◌++◌, length, get_or, refl, sym, ap, arith, Some}
+use Rattle.std.proofs.Common.{◌≡◌, ◌∙◌, ℕ, zero, suc, ◌+◌, ◌-◌, ◌<◌, max, List, [], ◌∷◌, ◌++◌, length, get_or, refl}
+use Rattle.std.proofs.Common.{sym, ap, arith, Some}
 use Rattle.std.specs.Prelude.{map, slice_get}
 use Rattle.std.specs.List.{range_with_len}
 use Rattle.std.proofs.lemmas.List.{map-append}
@@ -51,31 +52,38 @@ column_of-rows_of columns n c column k e =
     ∙ ap (λ m. map (cell_at column.vector.cells) (range_with_len 0 m)) (sym e)
     ∙ sym (cells-places column.vector.cells)
   where
-    each : (ps : List ℕ) → map (λ p. cell_at (row_at (vectors_of columns) p) c) ps ≡ map (cell_at column.vector.cells) ps
+    each : (ps : List ℕ) → map (λ p. cell_at (row_at (vectors_of columns) p) c) ps
+        ≡ map (cell_at column.vector.cells) ps
     each [] = refl
     each (p ∷ ps) = λ i. cell_at-row_at columns p c column k i ∷ each ps i
 
 -- the greatest over the shown places is that of the first ones and of the last ones
 pub greatest-shown : (f : ℕ → ℕ) (n : ℕ) → greatest (map f (shown (range_with_len 0 n)))
-    ≡ max (greatest (map f (range_with_len 0 (first_count n - 0)))) (greatest (map f (range_with_len (last_start n) (n - last_start n))))
+    ≡ max (greatest (map f (range_with_len 0 (first_count n - 0))))
+    (greatest (map f (range_with_len (last_start n) (n - last_start n))))
 greatest-shown f n =
     ap (λ ps. greatest (map f ps)) (shown-range n)
     ∙ ap greatest (map-append f (range_with_len 0 (first_count n)) (range_with_len (last_start n) (n - last_start n)))
-    ∙ greatest-append (map f (range_with_len 0 (first_count n))) (map f (range_with_len (last_start n) (n - last_start n)))
-    ∙ ap (λ k. max (greatest (map f (range_with_len 0 k))) (greatest (map f (range_with_len (last_start n) (n - last_start n)))))
+    ∙ greatest-append (map f (range_with_len 0 (first_count n)))
+    (map f (range_with_len (last_start n) (n - last_start n)))
+    ∙ ap (λ k. max (greatest (map f (range_with_len 0 k)))
+    (greatest (map f (range_with_len (last_start n) (n - last_start n)))))
     (let e : first_count n ≡ first_count n - 0 = omega arith in e)
 
 -- a column is as wide as its name, its first cells and its last ones
 pub width_in-spans : (name : List ℕ) (v : Vector) → width_in name v
     ≡ max (characters (name_text name))
     (max (greatest (map (cell_width_at v) (range_with_len 0 (first_count (length v.cells) - 0))))
-    (greatest (map (cell_width_at v) (range_with_len (last_start (length v.cells)) (length v.cells - last_start (length v.cells))))))
+    (greatest (map (cell_width_at v) (range_with_len (last_start (length v.cells))
+    (length v.cells - last_start (length v.cells))))))
 unfolding width_in
 width_in-spans name v =
     ap (max (characters (name_text name)))
     (ap (λ xs. greatest (map (λ x. characters (cell_text v.kind x)) (shown xs))) (cells-places v.cells)
-    ∙ ap (λ xs. greatest (map (λ x. characters (cell_text v.kind x)) xs)) (shown-map (cell_at v.cells) (range_with_len 0 (length v.cells)))
-    ∙ ap greatest (map-map (λ x. characters (cell_text v.kind x)) (cell_at v.cells) (shown (range_with_len 0 (length v.cells))))
+    ∙ ap (λ xs. greatest (map (λ x. characters (cell_text v.kind x)) xs))
+    (shown-map (cell_at v.cells) (range_with_len 0 (length v.cells)))
+    ∙ ap greatest (map-map (λ x. characters (cell_text v.kind x)) (cell_at v.cells)
+    (shown (range_with_len 0 (length v.cells))))
     ∙ greatest-shown (cell_width_at v) (length v.cells))
 
 -- the widest of the first ones and the widest of the last ones is the widest of those shown
@@ -87,7 +95,8 @@ pub shown_widest : (f : ℕ → ℕ) (n first_end last_from first last result : 
 shown_widest f n first_end last_from first last result is_end is_from is_first is_last is_max =
     is_max
     ∙ (λ i. max (is_first i) (is_last i))
-    ∙ (λ i. max (greatest (map f (range_with_len 0 (is_end i - 0)))) (greatest (map f (range_with_len (is_from i) (n - is_from i)))))
+    ∙ (λ i. max (greatest (map f (range_with_len 0 (is_end i - 0))))
+    (greatest (map f (range_with_len (is_from i) (n - is_from i)))))
     ∙ sym (greatest-shown f n)
 
 -- a column's width from its name's, and from the widest of the first and of the last cells
@@ -97,7 +106,8 @@ pub shown_width : (name : List ℕ) (v : Vector) (n first_end last_from of_name 
     → first ≡ greatest (map (cell_width_at v) (range_with_len 0 (first_end - 0)))
     → last ≡ greatest (map (cell_width_at v) (range_with_len last_from (n - last_from)))
     → of_cells ≡ max first last → result ≡ max of_name of_cells → result ≡ width_in name v
-shown_width name v n first_end last_from of_name first last of_cells result is_n is_end is_from is_name is_first is_last is_cells is_max =
+shown_width name v n first_end last_from of_name first last of_cells result is_n is_end is_from is_name is_first is_last
+    is_cells is_max =
     is_max
     ∙ (λ i. max (is_name i)
     ((shown_widest (cell_width_at v) n first_end last_from first last of_cells is_end is_from is_first is_last is_cells
@@ -114,7 +124,10 @@ pub column_width-frame : (names : List (List ℕ)) (columns : List Seen) (n c : 
     → column_width (frame_heads names columns) (rows_of n (vectors_of columns)) c ≡ width_in name column.vector
 unfolding width_in
 column_width-frame names columns n c name column inside is_name is_column rows =
-    rw (head_at-frame_heads names columns c name column inside is_name is_column, column_of-rows_of columns n c column is_column rows) refl
+    rw (
+      head_at-frame_heads names columns c name column inside is_name is_column,
+      column_of-rows_of columns n c column is_column rows,
+    ) refl
 
 -- one column more
 pub column_widths_more : (names : List (List ℕ)) (columns : List Seen) (n c : ℕ) (name : List ℕ) (column : Seen)
@@ -124,7 +137,10 @@ pub column_widths_more : (names : List (List ℕ)) (columns : List Seen) (n c : 
     → so_far ≡ map (column_width (frame_heads names columns) (rows_of n (vectors_of columns))) (range_with_len 0 c)
     → width ≡ width_in name column.vector → after ≡ so_far ++ width ∷ []
     → after ≡ map (column_width (frame_heads names columns) (rows_of n (vectors_of columns))) (range_with_len 0 (c + 1))
-column_widths_more names columns n c name column so_far after width inside is_name is_column rows is_so_far is_width is_after =
+column_widths_more names columns n c name column so_far after width inside is_name is_column rows is_so_far
+    is_width is_after =
     is_after
-    ∙ (λ i. is_so_far i ++ (is_width ∙ sym (column_width-frame names columns n c name column inside is_name is_column rows)) i ∷ [])
-    ∙ sym (map-range_with_len_more (column_width (frame_heads names columns) (rows_of n (vectors_of columns))) 0 c c (omega arith))
+    ∙ (λ i. is_so_far i ++ (is_width ∙ sym (column_width-frame names columns n c name column inside is_name is_column
+    rows)) i ∷ [])
+    ∙ sym (map-range_with_len_more (column_width (frame_heads names columns) (rows_of n (vectors_of columns))) 0 c c
+    (omega arith))

@@ -2,4 +2,3 @@ pub mod Elements
 pub mod Framing
 pub mod Spans
 pub mod Tables
-pub mod Warned

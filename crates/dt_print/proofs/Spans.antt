@@ -1,5 +1,6 @@
 -- Ranges of places, what is shown of a list, and the greatest of some numbers.
-use Rattle.std.proofs.Common.{◌≡◌, ◌∙◌, ℕ, zero, suc, ◌+◌, ◌-◌, ◌*◌, ◌<◌, ◌≤◌, Bool, true, false, cond, max, List, [], ◌∷◌, ◌++◌, length, take, drop, get_or, refl, sym, ap, arith, append_assoc, add-one}
+use Rattle.std.proofs.Common.{◌≡◌, ◌∙◌, ℕ, zero, suc, ◌+◌, ◌-◌, ◌*◌, ◌<◌, ◌≤◌, Bool, true, false, cond, max, List, []}
+use Rattle.std.proofs.Common.{◌∷◌, ◌++◌, length, take, drop, get_or, refl, sym, ap, arith, append_assoc, add-one}
 use Rattle.std.specs.Prelude.{map, nat_le, codes}
 use Rattle.std.specs.List.{flat_map, range_with_len, take-map, drop-map}
 use Rattle.std.proofs.lemmas.List.{map-append, length-map, append-nil}
@@ -37,7 +38,8 @@ greatest-append (n ∷ ns) ms = ap (max n) (greatest-append ns ms) ∙ max_assoc
     max_assoc a b c = omega arith
 
 pub greatest-range_more : (f : ℕ → ℕ) (from p : ℕ) → from ≤ p
-    → greatest (map f (range_with_len from (p + 1 - from))) ≡ max (greatest (map f (range_with_len from (p - from)))) (f p)
+    → greatest (map f (range_with_len from (p + 1 - from)))
+    ≡ max (greatest (map f (range_with_len from (p - from)))) (f p)
 greatest-range_more f from p h =
     ap (λ r. greatest (map f r)) (range_more from p h)
     ∙ ap greatest (map-append f (range_with_len from (p - from)) (p ∷ []))
@@ -65,7 +67,8 @@ pub shown-map : {X Y : Type 0} (f : X → Y) (xs : List X) → shown (map f xs) 
 shown-map f xs =
     rw length-map (by_size (nat_le (length xs) 100))
   where
-    by_size : (b : Bool) → cond b (map f xs) (take 5 (map f xs) ++ drop (length xs - 5) (map f xs)) ≡ map f (cond b xs (take 5 xs ++ drop (length xs - 5) xs))
+    by_size : (b : Bool) → cond b (map f xs) (take 5 (map f xs) ++ drop (length xs - 5) (map f xs))
+        ≡ map f (cond b xs (take 5 xs ++ drop (length xs - 5) xs))
     by_size true = refl
     by_size false =
         rw (take-map f 5 xs, drop-map f (length xs - 5) xs) (sym (map-append f (take 5 xs) (drop (length xs - 5) xs)))
@@ -88,19 +91,23 @@ shown-range n = rw length-range_with_len (by_size (nat_le n 100) (above_five n))
     by_size false h =
         let five : 5 ≤ n = h refl in
         rw (take-range 0 n 5 five, drop-range 0 n (n - 5) (omega arith))
-        (ap (λ k. range_with_len 0 5 ++ range_with_len k (n - (n - 5))) (let e : 0 + (n - 5) ≡ n - 5 = omega arith in e))
+        (ap (λ k. range_with_len 0 5 ++ range_with_len k (n - (n - 5)))
+        (let e : 0 + (n - 5) ≡ n - 5 = omega arith in e))
 
 lines_text-append : (ls ms : List (List ℕ)) → lines_text (ls ++ ms) ≡ lines_text ls ++ lines_text ms
 lines_text-append ls ms = flat_map-append (λ l. l ++ codes "\n") ls ms
 
 -- the lines that are shown, with their line feeds
 pub lines_text-elided : (f : ℕ → List ℕ) (n : ℕ) → lines_text (elided (map f (range_with_len 0 n)))
-    ≡ lines_text (map f (range_with_len 0 (first_count n))) ++ dashes n ++ lines_text (map f (range_with_len (last_start n) (n - last_start n)))
+    ≡ lines_text (map f (range_with_len 0 (first_count n))) ++ dashes n
+    ++ lines_text (map f (range_with_len (last_start n) (n - last_start n)))
 lines_text-elided f n = rw length-map-range_with_len (by_size (nat_le n 100) (above_five n))
   where
     by_size : (b : Bool) → (b ≡ false → 5 ≤ n)
-        → lines_text (cond b (map f (range_with_len 0 n)) (take 5 (map f (range_with_len 0 n)) ++ (codes "---" ∷ drop (n - 5) (map f (range_with_len 0 n)))))
-        ≡ lines_text (map f (range_with_len 0 (cond b n 5))) ++ cond b [] (codes "---\n") ++ lines_text (map f (range_with_len (cond b n (n - 5)) (n - cond b n (n - 5))))
+        → lines_text (cond b (map f (range_with_len 0 n))
+        (take 5 (map f (range_with_len 0 n)) ++ (codes "---" ∷ drop (n - 5) (map f (range_with_len 0 n)))))
+        ≡ lines_text (map f (range_with_len 0 (cond b n 5))) ++ cond b [] (codes "---\n")
+        ++ lines_text (map f (range_with_len (cond b n (n - 5)) (n - cond b n (n - 5))))
     by_size true h =
         let none : n - n ≡ 0 = omega arith in
         let all : List ℕ = lines_text (map f (range_with_len 0 n)) in
@@ -110,7 +117,13 @@ lines_text-elided f n = rw length-map-range_with_len (by_size (nat_le n 100) (ab
         let start : 0 + (n - 5) ≡ n - 5 = omega arith in
         let first : List (List ℕ) = map f (range_with_len 0 5) in
         let last : List (List ℕ) = map f (range_with_len (n - 5) (n - (n - 5))) in
-        rw (take-map f 5 (range_with_len 0 n), drop-map f (n - 5) (range_with_len 0 n), take-range 0 n 5 five, drop-range 0 n (n - 5) (omega arith), start)
+        rw (
+          take-map f 5 (range_with_len 0 n),
+          drop-map f (n - 5) (range_with_len 0 n),
+          take-range 0 n 5 five,
+          drop-range 0 n (n - 5) (omega arith),
+          start,
+        )
         (lines_text-append first (codes "---" ∷ last)
         ∙ sym (append_assoc (lines_text first) (codes "---\n") (lines_text last)))
 
@@ -148,7 +161,8 @@ added_next f p start before after added so_far more here =
     ∙ append_assoc start (flat_map f (range_with_len 0 p)) (f p)
     ∙ ap (λ r. start ++ r) (sym (ap (flat_map f) (ap (λ k. range_with_len 0 k) (add-one p) ∙ range-suc 0 p)
     ∙ flat_map-append f (range_with_len 0 p) ((0 + p) ∷ [])
-    ∙ ap (λ r. flat_map f (range_with_len 0 p) ++ r) (append-nil (f (0 + p)) ∙ ap f (let e : 0 + p ≡ p = omega arith in e))))
+    ∙ ap (λ r. flat_map f (range_with_len 0 p) ++ r)
+    (append-nil (f (0 + p)) ∙ ap f (let e : 0 + p ≡ p = omega arith in e))))
 
 -- an element does not depend on what would stand past the end
 pub get_or-any : {X : Type 0} (xs : List X) (k : ℕ) (d e : X) → k < length xs → get_or xs k d ≡ get_or xs k e
@@ -157,14 +171,16 @@ get_or-any (x ∷ xs) zero d e h = refl
 get_or-any (x ∷ xs) (suc k) d e h = get_or-any xs k d e (omega arith)
 
 -- three pieces added one after another
-pub three_added : (start first second third x y z : List ℕ) → first ≡ start ++ x → second ≡ first ++ y → third ≡ second ++ z
+pub three_added : (start first second third x y z : List ℕ) → first ≡ start ++ x → second ≡ first ++ y
+    → third ≡ second ++ z
     → third ≡ start ++ (x ++ y ++ z)
 three_added start first second third x y z e f h =
     h ∙ ap (λ r. r ++ z) (f ∙ ap (λ r. r ++ y) e)
     ∙ append_assoc (start ++ x) y z ∙ append_assoc start x (y ++ z) ∙ ap (λ r. start ++ r) (sym (append_assoc x y z))
 
 -- A loop over rows: as many touches for each.
-pub touches_from : (before start after from p each : ℕ) → from ≤ p → before ≡ start + (p - from) * each → after ≡ before + each
+pub touches_from : (before start after from p each : ℕ) → from ≤ p → before ≡ start + (p - from) * each
+    → after ≡ before + each
     → after ≡ start + (p + 1 - from) * each
 touches_from before start after from p each h so_far here =
     touches_more before start after (p - from) each so_far here

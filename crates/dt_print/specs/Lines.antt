@@ -8,7 +8,8 @@
 --   frame_line                      the line of a row, with its line feed
 --   dashes n                        the line between the first rows and the last ones
 --   empty_text names                a table without rows
-use Rattle.std.specs.Prelude.{ℕ, ◌+◌, ◌-◌, nat_le, if◌then◌else◌, max, List, [], ◌∷◌, ◌++◌, map, length, slice_get, slice_index, slice_index_or, codes, decimal, Option, None, Some}
+use Rattle.std.specs.Prelude.{ℕ, ◌+◌, ◌-◌, nat_le, if◌then◌else◌, max, List, [], ◌∷◌, ◌++◌, map, length, slice_get}
+use Rattle.std.specs.Prelude.{slice_index, slice_index_or, codes, decimal, Option, None, Some}
 use Rattle.std.specs.List.{flat_map, range_with_len, join_with_byte}
 use Rattle.dt_model.specs.Vector.{Vector, cell_at}
 use Rattle.na_vector.specs.Column.{Seen}

@@ -1,11 +1,11 @@
 //! The text of one cell.
-ghost use Rattle.std.specs.Prelude.{◌≡◌, ◌++◌, OnOk, decimal};
+ghost use Rattle.std.specs.Prelude.{◌≡◌, ◌++◌, OnOk};
 ghost use Rattle.dt_base.specs.Cell.{seen};
-ghost use Rattle.run_model.specs.Printed.{begins_character, characters, table_byte, name_text, na_text, cell_text, vector_byte};
+ghost use Rattle.run_model.specs.Printed.{begins_character, characters, table_byte, name_text};
+ghost use Rattle.run_model.specs.Printed.{na_text, cell_text, vector_byte};
 
 use cell_text::{push_integer, truth_text};
 use dt_base::{CellRef, ColType};
-use itoa::Buffer;
 use std::alloc::AllocError;
 
 fn begins_one(byte: u8) -> bool
@@ -19,14 +19,6 @@ pub fn width_of(text: &[u8]) -> usize
     ensures { result ≡ characters text.now }
 {
     text.iter().filter(|byte| begins_one(**byte)).count()
-}
-
-/// Adds a number.
-pub fn push_number(out: &mut Vec<u8>, n: u64) -> Result<(), AllocError>
-    ensures { OnOk result (out.new.items ≡ out.old.items ++ decimal n) }
-{
-    let mut buffer = Buffer::new();
-    out.extend_from_slice(buffer.format(n).as_bytes())
 }
 
 fn push_table_byte(out: &mut Vec<u8>, byte: u8) -> Result<(), AllocError>

@@ -2,11 +2,12 @@
 //!
 //! - `table_text` prints a table, `frame_text` columns with their names as one, `vector_text` a
 //!   column as a vector, and `null_text` NULL.
-//! - `fault_line` and `warn_lines` print what a statement says beside its answer.
+//! - `fault_line` and `warn_lines`, of `message_lines`, print what a statement says beside its
+//!   answer.
 //!
 //! Each call gives one new buffer with whole lines, the last line feed included, so that the caller
 //! puts it at once. It stands on columns, frames and tables, on the spellings of `cell_text`, and
-//! on `itoa` for other numbers.
+//! on `message_lines` for other numbers.
 //!
 //! It promises that the bytes are those of the definitions `printed_table`, `printed_vector`,
 //! `null_text`, `printed_fault` and `printed_warns`, which stand in `run_model`. Only memory can be
@@ -18,12 +19,11 @@
 
 mod cells;
 mod lines;
-mod messages;
 mod page;
 mod table;
 mod vector;
 mod widths;
 
-pub use messages::{fault_line, warn_lines};
+pub use message_lines::{fault_line, warn_lines};
 pub use table::{frame_text, table_text};
 pub use vector::{null_text, vector_text};

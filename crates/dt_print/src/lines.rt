@@ -1,5 +1,6 @@
 //! The lines of a table.
-ghost use Rattle.std.specs.Prelude.{◌≡◌, ◌+◌, ◌-◌, ◌*◌, ◌<◌, ◌≤◌, ◌^◌, ◌++◌, OnOk, length, replicate, codes};
+ghost use Rattle.std.specs.Prelude.{◌≡◌, ◌+◌, ◌-◌, ◌*◌, ◌<◌, ◌≤◌, ◌^◌, ◌++◌, OnOk, length};
+ghost use Rattle.std.specs.Prelude.{replicate, codes};
 ghost use Rattle.std.specs.List.{flat_map, range_with_len};
 ghost use Rattle.dt_print.specs.Lines.{names_part, cells_part, frame_line, dashes, first_count};
 
@@ -19,7 +20,8 @@ pub struct Layout {
 
 fn push_names(page: &mut Page, names: &[Text], widths: &[usize]) -> Result<(), AllocError>
     requires { length widths.now ≡ length names.now }
-    ensures { OnOk result (page.new.text.items ≡ page.old.text.items ++ names_part widths.now names.now (length names.now)) }
+    ensures { OnOk result (page.new.text.items ≡ page.old.text.items
+        ++ names_part widths.now names.now (length names.now)) }
 {
     for (c, name) in names.iter().enumerate() {
         page.push_name(name.as_str(), widths[c])?;
@@ -30,7 +32,9 @@ fn push_names(page: &mut Page, names: &[Text], widths: &[usize]) -> Result<(), A
 /// Adds the header.
 pub fn push_header(page: &mut Page, names: &[Text], layout: &Layout) -> Result<(), AllocError>
     requires { length layout.now.columns.items ≡ length names.now }
-    ensures { OnOk result (page.new.text.items ≡ page.old.text.items ++ (replicate layout.now.label 32 ++ names_part layout.now.columns.items names.now (length names.now) ++ codes "\n")) }
+    ensures { OnOk result (page.new.text.items ≡ page.old.text.items
+        ++ (replicate layout.now.label 32
+        ++ names_part layout.now.columns.items names.now (length names.now) ++ codes "\n")) }
 {
     push_blanks(&mut page.text, layout.label)?;
     push_names(page, names, &layout.columns)?;
@@ -47,7 +51,9 @@ fn push_cells<L: Ledger>(
 ) -> Result<(), AllocError>
     requires widths { length widths.now ≡ length frame.now.columns }
     requires place { place < frame.now.rows }
-    ensures text { OnOk result (page.new.text.items ≡ page.old.text.items ++ cells_part widths.now frame.now.columns place (length frame.now.columns)) }
+    ensures text { OnOk result
+        (page.new.text.items ≡ page.old.text.items
+        ++ cells_part widths.now frame.now.columns place (length frame.now.columns)) }
     ensures touches { OnOk result (steps.new ≡ steps.old + length frame.now.columns) }
 {
     for (c, width) in widths.iter().enumerate() {
@@ -68,7 +74,9 @@ fn push_row<L: Ledger>(
     requires widths { length layout.now.columns.items ≡ length frame.now.columns }
     requires place { place < frame.now.rows }
     requires number { place + 1 < 2 ^ 64 }
-    ensures text { OnOk result (page.new.text.items ≡ page.old.text.items ++ frame_line layout.now.label layout.now.columns.items frame.now.columns place) }
+    ensures text { OnOk result
+        (page.new.text.items ≡ page.old.text.items
+        ++ frame_line layout.now.label layout.now.columns.items frame.now.columns place) }
     ensures touches { OnOk result (steps.new ≡ steps.old + length frame.now.columns) }
 {
     page.push_label(place, layout.label)?;
@@ -89,7 +97,10 @@ pub fn push_rows<L: Ledger>(
     requires widths { length layout.now.columns.items ≡ length frame.now.columns }
     requires order { from ≤ to }
     requires within { to ≤ frame.now.rows }
-    ensures text { OnOk result (page.new.text.items ≡ page.old.text.items ++ flat_map (frame_line layout.now.label layout.now.columns.items frame.now.columns) (range_with_len from (to - from))) }
+    ensures text { OnOk result
+        (page.new.text.items ≡ page.old.text.items
+        ++ flat_map (frame_line layout.now.label layout.now.columns.items frame.now.columns)
+        (range_with_len from (to - from))) }
     ensures touches { OnOk result (steps.new ≡ steps.old + (to - from) * length frame.now.columns) }
 {
     for place in from..to {

@@ -4,8 +4,9 @@ ghost use Rattle.dt_base.specs.Cell.{seen};
 ghost use Rattle.run_model.specs.Printed.{characters, aligned, cell_text, name_text, label};
 ghost use Rattle.dt_print.specs.Lines.{part};
 
-use crate::cells::{push_cell, push_name, push_number, width_of};
+use crate::cells::{push_cell, push_name, width_of};
 use dt_base::{CellRef, ColType};
+use message_lines::push_number;
 use std::alloc::{AllocError, Global};
 
 /// What is printed so far. `cell` is room for the text of one cell, so that its characters can be
@@ -121,7 +122,8 @@ impl Page {
         cell: CellRef<'_>,
         width: usize,
     ) -> Result<(), AllocError>
-        ensures { OnOk result (self.new.text.items ≡ self.old.text.items ++ part width (cell_text kind (seen cell.entry))) }
+        ensures { OnOk result (self.new.text.items ≡ self.old.text.items
+            ++ part width (cell_text kind (seen cell.entry))) }
     {
         put_cell(&mut self.cell, kind, cell)?;
         push_part(&mut self.text, &self.cell, width)
@@ -129,7 +131,8 @@ impl Page {
 
     /// Adds a blank and a name, aligned.
     pub fn push_name(&mut self, name: &str, width: usize) -> Result<(), AllocError>
-        ensures { OnOk result (self.new.text.items ≡ self.old.text.items ++ part width (name_text name.now)) }
+        ensures { OnOk result (self.new.text.items ≡ self.old.text.items
+            ++ part width (name_text name.now)) }
     {
         put_name(&mut self.cell, name)?;
         push_part(&mut self.text, &self.cell, width)
@@ -138,7 +141,8 @@ impl Page {
     /// Adds the label of the row at a place, aligned.
     pub fn push_label(&mut self, place: usize, width: usize) -> Result<(), AllocError>
         requires { place + 1 < 2 ^ 64 }
-        ensures { OnOk result (self.new.text.items ≡ self.old.text.items ++ aligned width (label (place + 1))) }
+        ensures { OnOk result (self.new.text.items ≡ self.old.text.items
+            ++ aligned width (label (place + 1))) }
     {
         put_label(&mut self.cell, place)?;
         push_aligned(&mut self.text, &self.cell, width)

@@ -1,17 +1,20 @@
 //! Tables.
-ghost use Rattle.std.specs.Prelude.{◌≡◌, ◌+◌, ◌*◌, ◌<◌, ◌++◌, ◌∷◌, OnOk, IfOk, length, map, codes, decimal};
+ghost use Rattle.std.specs.Prelude.{◌≡◌, ◌+◌, ◌*◌, ◌<◌, ◌++◌, ◌∷◌, OnOk, IfOk, length, map, codes};
+ghost use Rattle.std.specs.Prelude.{decimal};
 ghost use Rattle.std.specs.List.{flat_map, join_with_byte};
-ghost use Rattle.run_model.specs.Printed.{name_text, null_table_text, filled_table_text, printed_table};
+ghost use Rattle.run_model.specs.Printed.{name_text, null_table_text, filled_table_text};
+ghost use Rattle.run_model.specs.Printed.{printed_table};
 ghost use Rattle.dt_table.specs.Plain.{plain};
 ghost use Rattle.dt_print.specs.Framed.{frame_heads, frame_rows};
 ghost use Rattle.dt_print.specs.Lines.{shown_count, empty_text};
 
-use crate::cells::{push_name, push_number};
+use crate::cells::push_name;
 use crate::lines::{Layout, push_dashes, push_header, push_rows};
 use crate::page::Page;
 use crate::widths::{column_widths, first_shown, label_width, last_shown};
 use dt_base::{Steps, Text};
 use dt_table::Table;
+use message_lines::push_number;
 use na_vector::Frame;
 use std::alloc::{AllocError, Global};
 use std::sync::ledger::Ledger;
@@ -25,7 +28,8 @@ fn null_table(alloc: Global) -> Result<Vec<u8>, AllocError>
 
 /// Adds names, each after a comma.
 fn push_others(out: &mut Vec<u8>, names: &[Text]) -> Result<(), AllocError>
-    ensures { OnOk result (out.new.items ≡ out.old.items ++ flat_map (λ n. 44 ∷ name_text n) names.now) }
+    ensures { OnOk result (out.new.items ≡ out.old.items
+        ++ flat_map (λ n. 44 ∷ name_text n) names.now) }
 {
     for name in names {
         out.push(b',')?;
@@ -36,7 +40,8 @@ fn push_others(out: &mut Vec<u8>, names: &[Text]) -> Result<(), AllocError>
 
 /// Adds names with commas between them.
 fn push_joined(out: &mut Vec<u8>, names: &[Text]) -> Result<(), AllocError>
-    ensures { OnOk result (out.new.items ≡ out.old.items ++ join_with_byte 44 (map name_text names.now)) }
+    ensures { OnOk result (out.new.items ≡ out.old.items
+        ++ join_with_byte 44 (map name_text names.now)) }
 {
     let Some((first, others)) = names.split_first() else {
         return Ok(());
@@ -66,8 +71,11 @@ fn filled_table<L: Ledger>(
     steps: &mut Steps<L>,
 ) -> Result<Vec<u8>, AllocError>
     requires { length names.now ≡ length frame.now.columns }
-    ensures text { IfOk result (λ v. v.items ≡ filled_table_text (frame_heads names.now frame.now.columns) (frame_rows frame.now)) }
-    ensures touches { OnOk result (steps.new ≡ steps.old + 2 * (length frame.now.columns * shown_count frame.now.rows)) }
+    ensures text { IfOk result
+        (λ v. v.items ≡ filled_table_text (frame_heads names.now frame.now.columns)
+        (frame_rows frame.now)) }
+    ensures touches { OnOk result
+        (steps.new ≡ steps.old + 2 * (length frame.now.columns * shown_count frame.now.rows)) }
 {
     let rows = frame.rows();
     let mut page = Page::new(alloc);
@@ -97,8 +105,11 @@ pub fn frame_text<L: Ledger>(
     steps: &mut Steps<L>,
 ) -> Result<Vec<u8>, AllocError>
     requires { length names.now ≡ length frame.now.columns }
-    ensures text { IfOk result (λ v. v.items ≡ printed_table (frame_heads names.now frame.now.columns) (frame_rows frame.now)) }
-    ensures touches { OnOk result (steps.new ≡ steps.old + 2 * (length frame.now.columns * shown_count frame.now.rows)) }
+    ensures text { IfOk result
+        (λ v. v.items ≡ printed_table (frame_heads names.now frame.now.columns)
+        (frame_rows frame.now)) }
+    ensures touches { OnOk result
+        (steps.new ≡ steps.old + 2 * (length frame.now.columns * shown_count frame.now.rows)) }
 {
     if frame.width() == 0 {
         null_table(alloc)
@@ -116,8 +127,10 @@ pub fn table_text<L: Ledger>(
     t: &Table,
     steps: &mut Steps<L>,
 ) -> Result<Vec<u8>, AllocError>
-    ensures text { IfOk result (λ v. v.items ≡ printed_table (plain t.now).columns (plain t.now).rows) }
-    ensures touches { OnOk result (steps.new ≡ steps.old + 2 * (length t.now.frame.columns * shown_count t.now.frame.rows)) }
+    ensures text { IfOk result
+        (λ v. v.items ≡ printed_table (plain t.now).columns (plain t.now).rows) }
+    ensures touches { OnOk result
+        (steps.new ≡ steps.old + 2 * (length t.now.frame.columns * shown_count t.now.frame.rows)) }
 {
     frame_text(alloc, t.names(), t.frame(), steps)
 }

@@ -2,7 +2,8 @@
 ghost use Rattle.std.specs.Prelude.{◌≡◌, ◌+◌, ◌<◌, ◌++◌, ◌∷◌, OnOk, IfOk, All, length};
 ghost use Rattle.std.specs.List.{flat_map};
 ghost use Rattle.na_vector.specs.Words.{int_cell, lgl_cell, text_cell, IsLglWord};
-ghost use Rattle.run_model.specs.Printed.{vector_byte, element, empty_vector_text, printed_vector, null_text as printed_null};
+ghost use Rattle.run_model.specs.Printed.{vector_byte, element, empty_vector_text, printed_vector};
+ghost use Rattle.run_model.specs.Printed.{null_text as printed_null};
 ghost use Rattle.dt_print.specs.Elements.{int_part, lgl_part, text_part};
 
 use crate::cells::push_vector_byte;
@@ -92,7 +93,8 @@ fn push_elements<L: Ledger>(
     v: &Column,
     steps: &mut Steps<L>,
 ) -> Result<(), AllocError>
-    ensures text { OnOk result (out.new.items ≡ out.old.items ++ flat_map (λ c. 32 ∷ element c) v.now.vector.cells) }
+    ensures text { OnOk result
+        (out.new.items ≡ out.old.items ++ flat_map (λ c. 32 ∷ element c) v.now.vector.cells) }
     ensures touches { OnOk result (steps.new ≡ steps.old + length v.now.vector.cells) }
 {
     match v.kind() {
@@ -125,7 +127,8 @@ pub fn vector_text<L: Ledger>(
     v: &Column,
     steps: &mut Steps<L>,
 ) -> Result<Vec<u8>, AllocError>
-    ensures text { IfOk result (λ b. b.items ≡ printed_vector v.now.vector.kind v.now.vector.cells) }
+    ensures text { IfOk result
+        (λ b. b.items ≡ printed_vector v.now.vector.kind v.now.vector.cells) }
     ensures touches { OnOk result (steps.new ≡ steps.old + length v.now.vector.cells) }
 {
     if v.len() == 0 {

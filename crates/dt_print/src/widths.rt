@@ -4,7 +4,8 @@ ghost use Rattle.std.specs.List.{range_with_len};
 ghost use Rattle.run_model.specs.Printed as printed;
 ghost use Rattle.run_model.specs.Printed.{greatest};
 ghost use Rattle.dt_print.specs.Framed.{frame_heads, frame_rows};
-ghost use Rattle.dt_print.specs.Lines.{first_count, last_start, shown_count, label_width_at, cell_width_at, width_in};
+ghost use Rattle.dt_print.specs.Lines.{first_count, last_start, shown_count, label_width_at};
+ghost use Rattle.dt_print.specs.Lines.{cell_width_at, width_in};
 
 use crate::page::Page;
 use dt_base::{Steps, Text};
@@ -40,7 +41,8 @@ pub fn last_shown(rows: usize) -> usize
 
 fn labels_width(page: &mut Page, from: usize, to: usize) -> Result<usize, AllocError>
     requires { from ≤ to }
-    ensures width { IfOk result (λ w. w ≡ greatest (map label_width_at (range_with_len from (to - from)))) }
+    ensures width { IfOk result
+        (λ w. w ≡ greatest (map label_width_at (range_with_len from (to - from)))) }
     ensures same { page.new.text.items ≡ page.old.text.items }
 {
     let mut widest = 0usize;
@@ -69,7 +71,9 @@ fn cells_width<L: Ledger>(
 ) -> Result<usize, AllocError>
     requires order { from ≤ to }
     requires within { to ≤ length column.now.vector.cells }
-    ensures width { IfOk result (λ w. w ≡ greatest (map (cell_width_at column.now.vector) (range_with_len from (to - from)))) }
+    ensures width { IfOk result
+        (λ w. w ≡ greatest (map (cell_width_at column.now.vector)
+        (range_with_len from (to - from)))) }
     ensures same { page.new.text.items ≡ page.old.text.items }
     ensures touches { OnOk result (steps.new ≡ steps.old + (to - from)) }
 {
@@ -89,7 +93,8 @@ fn column_width<L: Ledger>(
 ) -> Result<usize, AllocError>
     ensures width { IfOk result (λ w. w ≡ width_in name.now column.now.vector) }
     ensures same { page.new.text.items ≡ page.old.text.items }
-    ensures touches { OnOk result (steps.new ≡ steps.old + shown_count (length column.now.vector.cells)) }
+    ensures touches { OnOk result
+        (steps.new ≡ steps.old + shown_count (length column.now.vector.cells)) }
 {
     let rows = column.len();
     let of_name = page.name_width(name.as_str())?;
@@ -107,9 +112,12 @@ pub fn column_widths<L: Ledger>(
     steps: &mut Steps<L>,
 ) -> Result<Vec<usize>, AllocError>
     requires { length names.now ≡ length frame.now.columns }
-    ensures widths { IfOk result (λ v. v.items ≡ map (printed.column_width (frame_heads names.now frame.now.columns) (frame_rows frame.now)) (range_with_len 0 (length frame.now.columns))) }
+    ensures widths { IfOk result
+        (λ v. v.items ≡ map (printed.column_width (frame_heads names.now frame.now.columns)
+        (frame_rows frame.now)) (range_with_len 0 (length frame.now.columns))) }
     ensures same { page.new.text.items ≡ page.old.text.items }
-    ensures touches { OnOk result (steps.new ≡ steps.old + length frame.now.columns * shown_count frame.now.rows) }
+    ensures touches { OnOk result
+        (steps.new ≡ steps.old + length frame.now.columns * shown_count frame.now.rows) }
 {
     let mut widths = Vec::new(alloc);
     for c in 0..frame.width() {

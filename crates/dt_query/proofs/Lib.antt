@@ -1,4 +1,3 @@
-pub mod Plain
-pub mod TextFacts
-pub mod Values
-pub mod Written
+pub mod Empty
+pub mod FoundFacts
+pub mod Ordered

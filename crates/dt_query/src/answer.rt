@@ -1,5 +1,5 @@
 use dt_base::Warns;
-use dt_table::Table;
+use dt_table::{Change, Table};
 use na_vector::Column;
 
 /// What a bracket gives.
@@ -10,6 +10,8 @@ pub enum Outcome {
     /// A table of its own.
     Table(Table),
     Vector(Column),
+    /// The table before the bracket, changed.
+    Assigned(Change),
 }
 
 /// What a bracket gives, and its warnings.
@@ -17,13 +19,4 @@ pub enum Outcome {
 pub struct Answer {
     pub outcome: Outcome,
     pub warns: Warns,
-}
-
-/// The two options of a session.
-#[derive(Clone, Copy)]
-pub struct Options {
-    /// `datatable.auto.index`: a query may leave an index.
-    pub auto_index: bool,
-    /// `datatable.use.index`: a query may use one.
-    pub use_index: bool,
 }

@@ -1,36 +1,31 @@
-//! What one bracket `D[i, j]` gives behind a table, and what a list of expressions gives as columns.
+//! What one bracket gives behind a table, in the one order of a bracket.
 //!
-//! - `run_query` answers a bracket: the same table, a table of its own, or a vector (`Outcome`), with
-//!   the warnings of i and of j (`Answer`). `Options` are the session's, for indices.
-//! - `columns` answers a list of expressions as a j: the items of `.( )`. Texts as a j go the same way.
-//! - `arguments` answers the arguments of `data.table`, each checked and valued before the next.
+//! - `run_query` answers a bracket: the same table, a table of its own, a vector, or the same table
+//!   changed (`Outcome`), with the warnings of i and of j (`Answer`).
+//! - `is_empty` tells a bracket with nothing in it. `Options` are the session's, for indices;
+//!   `answer_of`, `arguments`, `columns` and `NewTable` are those of `bracket_columns`.
 //!
-//! It stands on `expr_eval` for the types and values of expressions, on `row_choice` for the rows that
-//! an i chooses and for columns of one length, and on `dt_table` for the table that is made.
+//! Each step of the order stands in a crate below: what is asked in `bracket_forms`, i in
+//! `bracket_rows`, j in `bracket_columns`, assignments in `bracket_assign`. Here they are only put
+//! one behind the other.
 //!
 //! It promises that a bracket gives what the definition `bracket_answer` says of it, over the plain
-//! reading of the table, and a list what `columns_answer` or `arguments_answer` says: the same answer with the same warnings,
-//! or the same fault, the first in the order of the language. Want of memory is the one other answer,
-//! and no fault blames a file. A third item, an assignment, and a join as i are not served, and are
+//! reading of the table: the same answer with the same warnings, or the same fault, the first in
+//! the order of the language; and that a change fits the table. Want of memory is the one other
+//! answer, and no fault blames a file. Groups, `.SDcols` and a join as i are not served, and are
 //! told as `unbuilt` where the definition tells them.
 //!
-//! Without i, j looks at the table's own columns, and only the places of the rows are made anew. An i
-//! is valued over them too, the vector of a bare name without a copy; the rows that it chooses are
-//! gathered once, into the new table or as what j looks at. All else is the cost of the expressions
-//! and of the columns of the answer.
+//! Without i, j looks at the table's own columns; the rows that an i chooses are gathered once. All
+//! else is the cost of the expressions and of the columns of the answer.
 #![tactic(auto)]
 
 mod answer;
-mod forms;
-mod lists;
-mod names;
 mod query;
-mod rows;
-mod scopes;
+mod rules;
 mod second;
-mod tables;
-mod texts;
 
-pub use answer::{Answer, Options, Outcome};
-pub use lists::{arguments, columns};
+pub use answer::{Answer, Outcome};
+pub use bracket_columns::{Computed, NewTable, answer_of, arguments, columns};
+pub use func_table::Options;
 pub use query::run_query;
+pub use rules::is_empty;

@@ -1,195 +1,29 @@
-ghost use Rattle.std.specs.Prelude.{◌≡◌, None, Some, IfOk, IfErr, length, map};
-ghost use Rattle.eval_fail.specs.Answers.{AnswersAs, IsOwn};
-ghost use Rattle.dt_base.specs.Warns.{both_warns, no_warns};
-ghost use Rattle.dt_model.specs.Vector.{gathered};
-ghost use Rattle.dt_query.specs.Answers.{plain_answer};
-ghost use Rattle.dt_query.specs.Chosen.{chosen_of, AreRows};
+ghost use Rattle.std.specs.Prelude.{◌≡◌, IfOk, IfErr, is_some, option_map};
+ghost use Rattle.bracket_forms.specs.Items.{asked_seen};
+ghost use Rattle.bracket_rows.specs.Found.{found_of, is_chosen, AreFound};
+ghost use Rattle.dt_base.specs.Warns.{no_warns};
+ghost use Rattle.dt_query.specs.Answers.{plain_answer, OutcomeFits};
 ghost use Rattle.dt_query.specs.declared.answer.Outcome.TheVariants.{Same};
 ghost use Rattle.dt_table.specs.Plain.{plain};
-ghost use Rattle.expr_model.specs.Surroundings.{columns_at, columns_in};
-ghost use Rattle.na_vector.specs.Frame.{vectors_of};
-ghost use Rattle.session_model.specs.Meaning.{meaning, second_meaning, bracket_meaning};
-ghost use Rattle.session_model.specs.Query.{bracket_answer, j_answer, parts_answer, rows_answer, second_answer, second_over_all, whole_rows};
-ghost use Rattle.session_model.specs.Value.{new_table};
+ghost use Rattle.eval_fail.specs.Answers.{AnswersAs, IsOwn};
+ghost use Rattle.session_model.specs.Found.{found};
+ghost use Rattle.session_model.specs.Meaning.{bracket_meaning, meaning, second_meaning};
+ghost use Rattle.session_model.specs.Query.{asked_answer, bracket_answer, ungrouped};
+ghost use Rattle.session_model.specs.Second.{second_answer};
+ghost use Rattle.vector_model.specs.Then.{then_do};
 
-use crate::rows::{Chosen, rows_of_i};
-use crate::scopes::{chosen_scope, whole_scope};
-use crate::second::answer_of;
-use crate::tables::new_table;
+use crate::rules::{is_empty, joins_nothing, ungrouped};
+use crate::second::second_answer;
 use crate::{Answer, Options, Outcome};
+use bracket_forms::{Asked, asked};
+use bracket_rows::{Found, rows_found};
 use dt_base::{Steps, Warns};
 use dt_table::Table;
 use dt_tree::{Bracket, Expr, Second};
-use eval_fail::{EvalFail, stop_unbuilt};
+use eval_fail::EvalFail;
 use expr_eval::Vars;
-use na_vector::Frame;
-use row_choice::all_rows;
-use std::alloc::{AllocError, Global};
+use std::alloc::Global;
 use std::sync::ledger::Ledger;
-
-/// What j gives over all rows.
-fn answer_over_all<V: Vars, L: Ledger>(
-    alloc: Global,
-    j: &Expr,
-    x: &Table,
-    vars: &V,
-    steps: &mut Steps<L>,
-) -> Result<Answer, EvalFail>
-    ensures answer { AnswersAs plain_answer ((meaning j.now).answer (whole_rows (plain x.now) (V.bound vars.now))) result }
-    ensures own { IfErr result IsOwn }
-{
-    let all = all_rows(alloc, x.frame().rows())?;
-    let none = Frame::new(alloc);
-    let s = whole_scope(x, &all, &none, vars);
-    answer_of(alloc, j, &s, steps)
-}
-
-/// What stands as j over all rows. An assignment is not served.
-fn second_over_all<V: Vars, L: Ledger>(
-    alloc: Global,
-    second: &Second,
-    x: &Table,
-    vars: &V,
-    steps: &mut Steps<L>,
-) -> Result<Answer, EvalFail>
-    ensures answer { AnswersAs plain_answer (second_over_all (second_meaning second.now) (plain x.now) (V.bound vars.now)) result }
-    ensures own { IfErr result IsOwn }
-{
-    match second {
-        Second::Value(j) => answer_over_all(alloc, j, x, vars, steps),
-        Second::Assign { left: _, right: _ } => Err(stop_unbuilt(alloc)),
-        Second::AssignAll { args: _ } => Err(stop_unbuilt(alloc)),
-    }
-}
-
-/// The columns of the chosen rows.
-fn chosen_frame<L: Ledger>(
-    alloc: Global,
-    x: &Table,
-    chosen: &Chosen,
-    steps: &mut Steps<L>,
-) -> Result<Frame, AllocError>
-    requires { AreRows x.now chosen.now }
-    ensures vectors { IfOk result (λ f. vectors_of f.columns ≡ map (λ v. gathered v chosen.now.positions.items) (vectors_of x.now.frame.columns)) }
-    ensures rows { IfOk result (λ f. f.rows ≡ length chosen.now.positions.items) }
-{
-    x.frame().gather(alloc, &chosen.positions, steps)
-}
-
-/// The gathered rows under the table's names, as a new table.
-fn chosen_table(alloc: Global, x: &Table, chosen: &Chosen, frame: Frame) -> Result<Table, EvalFail>
-    requires vectors { vectors_of frame.columns ≡ map (λ v. gathered v chosen.now.positions.items) (vectors_of x.now.frame.columns) }
-    requires rows { frame.rows ≡ length chosen.now.positions.items }
-    ensures answer { AnswersAs plain (new_table (columns_in (plain x.now)).names (length chosen.now.positions.items) (columns_at (columns_in (plain x.now)) chosen.now.positions.items).vectors) result }
-    ensures own { IfErr result IsOwn }
-{
-    new_table(alloc, x.names(), frame)
-}
-
-/// The chosen rows as a new table.
-fn rows_answer<L: Ledger>(
-    alloc: Global,
-    x: &Table,
-    chosen: &Chosen,
-    steps: &mut Steps<L>,
-) -> Result<Answer, EvalFail>
-    requires { AreRows x.now chosen.now }
-    ensures answer { AnswersAs plain_answer (rows_answer (plain x.now) (chosen_of chosen.now)) result }
-    ensures own { IfErr result IsOwn }
-{
-    let frame = chosen_frame(alloc, x, chosen, steps)?;
-    let table = chosen_table(alloc, x, chosen, frame)?;
-    Ok(Answer {
-        outcome: Outcome::Table(table),
-        warns: chosen.warns,
-    })
-}
-
-/// An answer, with more warnings before its own.
-fn warned(warns: Warns, answer: Answer) -> Answer
-    ensures outcome { result.outcome ≡ answer.outcome }
-    ensures warns { result.warns ≡ both_warns warns answer.warns }
-{
-    let Answer {
-        outcome,
-        warns: own,
-    } = answer;
-    Answer {
-        outcome,
-        warns: warns.both(own),
-    }
-}
-
-/// What j gives over the chosen rows, with the warnings of i.
-fn answer_over<V: Vars, L: Ledger>(
-    alloc: Global,
-    j: &Expr,
-    x: &Table,
-    vars: &V,
-    chosen: &Chosen,
-    steps: &mut Steps<L>,
-) -> Result<Answer, EvalFail>
-    requires { AreRows x.now chosen.now }
-    ensures answer { AnswersAs plain_answer (j_answer (meaning j.now) (plain x.now) (V.bound vars.now) (chosen_of chosen.now)) result }
-    ensures own { IfErr result IsOwn }
-{
-    let frame = chosen_frame(alloc, x, chosen, steps)?;
-    let none = Frame::new(alloc);
-    let s = chosen_scope(x, &frame, &chosen.positions, &none, vars);
-    let answer = answer_of(alloc, j, &s, steps)?;
-    Ok(warned(chosen.warns, answer))
-}
-
-/// What stands as j over the chosen rows. An assignment is not served.
-fn second_answer<V: Vars, L: Ledger>(
-    alloc: Global,
-    second: &Second,
-    x: &Table,
-    vars: &V,
-    chosen: &Chosen,
-    steps: &mut Steps<L>,
-) -> Result<Answer, EvalFail>
-    requires { AreRows x.now chosen.now }
-    ensures answer { AnswersAs plain_answer (second_answer (second_meaning second.now) (plain x.now) (V.bound vars.now) (chosen_of chosen.now)) result }
-    ensures own { IfErr result IsOwn }
-{
-    match second {
-        Second::Value(j) => answer_over(alloc, j, x, vars, chosen, steps),
-        Second::Assign { left: _, right: _ } => Err(stop_unbuilt(alloc)),
-        Second::AssignAll { args: _ } => Err(stop_unbuilt(alloc)),
-    }
-}
-
-/// What a bracket gives that has an i alone.
-fn with_i<V: Vars, L: Ledger>(
-    alloc: Global,
-    i: &Expr,
-    x: &Table,
-    vars: &V,
-    steps: &mut Steps<L>,
-) -> Result<Answer, EvalFail>
-    ensures answer { AnswersAs plain_answer (parts_answer (Some (meaning i.now)) None (plain x.now) (V.bound vars.now)) result }
-    ensures own { IfErr result IsOwn }
-{
-    let chosen = rows_of_i(alloc, i, x, vars, steps)?;
-    rows_answer(alloc, x, &chosen, steps)
-}
-
-/// What a bracket gives that has an i and a j.
-fn with_both<V: Vars, L: Ledger>(
-    alloc: Global,
-    i: &Expr,
-    second: &Second,
-    x: &Table,
-    vars: &V,
-    steps: &mut Steps<L>,
-) -> Result<Answer, EvalFail>
-    ensures answer { AnswersAs plain_answer (parts_answer (Some (meaning i.now)) (Some (second_meaning second.now)) (plain x.now) (V.bound vars.now)) result }
-    ensures own { IfErr result IsOwn }
-{
-    let chosen = rows_of_i(alloc, i, x, vars, steps)?;
-    second_answer(alloc, second, x, vars, &chosen, steps)
-}
 
 /// The same table.
 fn same() -> Answer
@@ -202,36 +36,80 @@ fn same() -> Answer
     }
 }
 
-/// What a bracket gives by its i and its j.
-fn parts_answer<V: Vars, L: Ledger>(
+/// The rows that i finds, unless an argument wants a join.
+fn found<V: Vars, L: Ledger>(
+    alloc: Global,
+    q: &Asked<'_>,
+    i: &Option<Expr>,
+    x: &Table,
+    vars: &V,
+    steps: &mut Steps<L>,
+) -> Result<Found, EvalFail>
+    ensures answer { AnswersAs (found_of x.now)
+        (found (asked_seen q.now) (option_map meaning i.now) (plain x.now) (V.bound vars.now))
+        result }
+    ensures rows { IfOk result (AreFound x.now) }
+    ensures chosen { IfOk result (λ f. is_chosen f ≡ is_some i.now) }
+    ensures own { IfErr result IsOwn }
+{
+    let rows = rows_found(alloc, i, x, vars, steps)?;
+    joins_nothing(alloc, q)?;
+    Ok(rows)
+}
+
+/// What a bracket gives once i has found its rows: groups are not served, then j.
+fn answer_over<V: Vars, L: Ledger>(
+    alloc: Global,
+    wanted: &Asked<'_>,
+    second: &Option<Second>,
+    x: &Table,
+    vars: &V,
+    rows: &Found,
+    steps: &mut Steps<L>,
+) -> Result<Answer, EvalFail>
+    requires { AreFound x.now rows.now }
+    ensures answer { AnswersAs (plain_answer x.now) (then_do (ungrouped (asked_seen wanted.now))
+        (λ _. second_answer (is_chosen rows.now) (option_map second_meaning second.now)
+        (plain x.now) (V.bound vars.now) (found_of x.now rows.now))) result }
+    ensures fits { IfOk result (λ a. OutcomeFits x.now a.outcome) }
+    ensures own { IfErr result IsOwn }
+{
+    ungrouped(alloc, wanted)?;
+    second_answer(alloc, second, x, vars, rows, steps)
+}
+
+/// What a bracket gives that has something in it, in the one order: what its arguments ask; the
+/// rows that i finds, and arguments that want a join; groups; and j.
+fn asked_answer<V: Vars, L: Ledger>(
     alloc: Global,
     q: &Bracket,
     x: &Table,
     vars: &V,
     steps: &mut Steps<L>,
 ) -> Result<Answer, EvalFail>
-    ensures answer { AnswersAs plain_answer (parts_answer (bracket_meaning q.now).first (bracket_meaning q.now).second (plain x.now) (V.bound vars.now)) result }
+    ensures answer { AnswersAs (plain_answer x.now)
+        (asked_answer (bracket_meaning q.now) (plain x.now) (V.bound vars.now)) result }
+    ensures fits { IfOk result (λ a. OutcomeFits x.now a.outcome) }
     ensures own { IfErr result IsOwn }
 {
-    match (&q.first, &q.second) {
-        (None, None) => Ok(same()),
-        (None, Some(second)) => second_over_all(alloc, second, x, vars, steps),
-        (Some(i), None) => with_i(alloc, i, x, vars, steps),
-        (Some(i), Some(second)) => with_both(alloc, i, second, x, vars, steps),
-    }
+    let wanted = asked(alloc, q)?;
+    let rows = found(alloc, &wanted, &q.first, x, vars, steps)?;
+    answer_over(alloc, &wanted, &q.second, x, vars, &rows, steps)
 }
 
 /// What one bracket gives behind the table `x`, where `vars` are the script's names. `y` and `opts`
 /// are for joins and indices, which are not served yet, and nothing looks at them.
 ///
-/// Without i and j it is the same table, with an i alone a new table of the rows that i chooses, and
-/// with a j what j gives over these rows, or over all. A third item is not served. Then the faults of
-/// i come, by its type, then its value, then its rows, and then those of j, by its types, then its
-/// values, then its lengths, names and limits. An assignment is not served, which is told once i is
-/// through. What is not served is E19 with `unbuilt`. The warnings are those of i and of j.
+/// With nothing in it the bracket gives the same table, with an i alone a new table of the rows
+/// that i finds, with a j what j gives over these rows, or over all, and with an assignment the
+/// same table, changed. First come the faults of its arguments as written: E19 with the argument's
+/// word. Then those of i, by its type, then its value, then its rows; then E19 with the first
+/// argument that wants a join. Groups and `.SDcols` are not served, which is E19 with `unbuilt`.
+/// Then those of j, by its types, then its values, then its lengths, names and limits; or those of
+/// the assignment. The warnings are those of i and of j.
 ///
-/// Without i, j looks at the table's own columns. With one, the chosen rows are gathered once.
-/// The manual's page data.table; the order is dtq's own, docs/LANGUAGE.md, section "Brackets".
+/// Without i, j looks at the table's own columns. With one, the rows are gathered once. The
+/// manual's page data.table; the order is dtq's own, docs/LANGUAGE.md, section "Brackets".
 pub fn run_query<V: Vars, L: Ledger>(
     alloc: Global,
     q: &Bracket,
@@ -241,11 +119,13 @@ pub fn run_query<V: Vars, L: Ledger>(
     _opts: &Options,
     steps: &mut Steps<L>,
 ) -> Result<Answer, EvalFail>
-    ensures answer { AnswersAs plain_answer (bracket_answer (bracket_meaning q.now) (plain x.now) (V.bound vars.now)) result }
+    ensures answer { AnswersAs (plain_answer x.now)
+        (bracket_answer (bracket_meaning q.now) (plain x.now) (V.bound vars.now)) result }
+    ensures fits { IfOk result (λ a. OutcomeFits x.now a.outcome) }
     ensures own { IfErr result IsOwn }
 {
-    match &q.third {
-        Some(_) => Err(stop_unbuilt(alloc)),
-        None => parts_answer(alloc, q, x, vars, steps),
+    if is_empty(q) {
+        return Ok(same());
     }
+    asked_answer(alloc, q, x, vars, steps)
 }

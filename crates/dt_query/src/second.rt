@@ -1,164 +1,197 @@
-ghost use Rattle.std.specs.Prelude.{◌≡◌, ◌∷◌, [], IfOk, IfErr, map};
+ghost use Rattle.std.specs.Prelude.{◌≡◌, Some, IfOk, IfErr, option_map, map};
+ghost use Rattle.bracket_columns.specs.Answers.{computed_seen};
+ghost use Rattle.bracket_rows.specs.Found.{found_of, is_chosen, AreFound};
+ghost use Rattle.dt_base.specs.Warns.{both_warns};
+ghost use Rattle.dt_query.specs.Answers.{outcome_of, plain_answer, OutcomeFits};
+ghost use Rattle.dt_query.specs.Rows.{found_table};
+ghost use Rattle.dt_query.specs.declared.answer.Outcome.TheVariants.{Assigned as Changed};
+ghost use Rattle.dt_table.specs.Plain.{plain};
 ghost use Rattle.eval_fail.specs.Answers.{AnswersAs, IsOwn};
-ghost use Rattle.dt_query.specs.Answers.{plain_answer};
-ghost use Rattle.dt_query.specs.Scopes.{IsOverRows};
-ghost use Rattle.dt_query.specs.Texts.{call_texts, answer_by};
-ghost use Rattle.expr_eval.specs.Scope.{env_of, IsScope};
-ghost use Rattle.session_model.specs.Columns.{text_columns, vector_answer};
-ghost use Rattle.session_model.specs.Form.{text_in};
-ghost use Rattle.session_model.specs.Meaning.{meaning, arg_meaning, one_text, texts_or};
+ghost use Rattle.session_model.specs.Meaning.{arg_meaning, meaning, second_meaning};
+ghost use Rattle.session_model.specs.Meanings.{Assigns, AssignsAll};
+ghost use Rattle.session_model.specs.Second.{j_answer, rows_answer, second_answer};
 
-use crate::lists::{add, list_answer};
-use crate::texts::{call_texts, text_columns};
 use crate::{Answer, Outcome};
-use arg_bind::text_literal;
-use dt_base::{ColName, Steps, Text};
-use dt_tree::{Arg, Expr};
+use bracket_assign::{Assigned, assigned, assigned_all};
+use bracket_columns::{Computed, answer_of, new_table};
+use bracket_rows::{Found, found_columns, surround};
+use dt_base::{Steps, Warns};
+use dt_table::Table;
+use dt_tree::{Arg, Expr, Second};
 use eval_fail::EvalFail;
-use expr_eval::{Scope, Vars, check, eval};
-use func_table::is_list;
-use std::alloc::{AllocError, Global};
+use expr_eval::Vars;
+use std::alloc::Global;
 use std::sync::ledger::Ledger;
 
-/// The vector of an expression: its type first, then its value.
-fn vector_answer<V: Vars, L: Ledger>(
+/// The rows that were found, as a new table.
+#[tactic(auto, using(crate::proofs::FoundFacts::found_width))]
+fn found_table<L: Ledger>(
     alloc: Global,
-    e: &Expr,
-    s: &Scope<'_, V>,
+    x: &Table,
+    found: &Found,
     steps: &mut Steps<L>,
-) -> Result<Answer, EvalFail>
-    requires { IsScope s.now }
-    ensures answer { AnswersAs plain_answer (vector_answer (meaning e.now).check (meaning e.now).value (env_of V.bound s.now)) result }
+) -> Result<Table, EvalFail>
+    requires { AreFound x.now found.now }
+    ensures answer { AnswersAs plain (found_table (found_of x.now found.now)) result }
     ensures own { IfErr result IsOwn }
 {
-    check(alloc, e, s)?;
-    let value = eval(alloc, e, s, steps)?;
+    let frame = found_columns(alloc, x, found, steps)?;
+    new_table(alloc, x.names(), frame)
+}
+
+/// What a bracket without j gives: the rows that were found.
+fn rows_answer<L: Ledger>(
+    alloc: Global,
+    x: &Table,
+    found: &Found,
+    steps: &mut Steps<L>,
+) -> Result<Answer, EvalFail>
+    requires { AreFound x.now found.now }
+    ensures answer { AnswersAs (plain_answer x.now) (rows_answer (found_of x.now found.now))
+        result }
+    ensures fits { IfOk result (λ a. OutcomeFits x.now a.outcome) }
+    ensures own { IfErr result IsOwn }
+{
+    let table = found_table(alloc, x, found, steps)?;
     Ok(Answer {
-        outcome: Outcome::Vector(value.column),
-        warns: value.warns,
+        outcome: Outcome::Table(table),
+        warns: found.warns,
     })
 }
 
-/// A list of one name.
-fn one_name(alloc: Global, name: &str) -> Result<Vec<ColName>, AllocError>
-    ensures { IfOk result (λ v. v.items ≡ name.now ∷ []) }
+/// What j gave, with the warnings of i before its own.
+fn computed_answer(warns: Warns, computed: Computed) -> Answer
+    ensures outcome { result.outcome ≡ outcome_of computed }
+    ensures warns { result.warns ≡ both_warns warns (computed_seen computed).warns }
 {
-    let name = Text::make(alloc, name)?;
-    let mut names = Vec::new(alloc);
-    add(&mut names, name)?;
-    Ok(names)
-}
-
-/// The column that a text names.
-fn text_answer<V: Vars, L: Ledger>(
-    alloc: Global,
-    text: &str,
-    s: &Scope<'_, V>,
-    steps: &mut Steps<L>,
-) -> Result<Answer, EvalFail>
-    requires scope { IsScope s.now }
-    requires rows { IsOverRows s.now }
-    ensures answer { AnswersAs plain_answer (text_columns (text.now ∷ []) (env_of V.bound s.now)) result }
-    ensures own { IfErr result IsOwn }
-{
-    let names = one_name(alloc, text)?;
-    text_columns(alloc, &names, s, steps)
-}
-
-/// What a literal gives: a text names a column, any other is a vector.
-#[tactic(auto, using(crate::proofs::TextFacts::literals))]
-fn literal_answer<V: Vars, L: Ledger>(
-    alloc: Global,
-    e: &Expr,
-    s: &Scope<'_, V>,
-    steps: &mut Steps<L>,
-) -> Result<Answer, EvalFail>
-    requires scope { IsScope s.now }
-    requires rows { IsOverRows s.now }
-    ensures answer { AnswersAs plain_answer (texts_or (one_text (text_in (meaning e.now).form)) (vector_answer (meaning e.now).check (meaning e.now).value) (env_of V.bound s.now)) result }
-    ensures own { IfErr result IsOwn }
-{
-    match text_literal(e) {
-        Some(text) => text_answer(alloc, text, s, steps),
-        None => vector_answer(alloc, e, s, steps),
+    match computed {
+        Computed::Table(made) => Answer {
+            outcome: Outcome::Table(made.table),
+            warns: warns.both(made.warns),
+        },
+        Computed::Vector(value) => Answer {
+            outcome: Outcome::Vector(value.column),
+            warns: warns.both(value.warns),
+        },
     }
 }
 
-/// What a call that is no list gives: the columns that its texts name, or a vector.
-fn texts_or_vector<V: Vars, L: Ledger>(
-    alloc: Global,
-    e: &Expr,
-    name: &str,
-    args: &[Arg],
-    s: &Scope<'_, V>,
-    steps: &mut Steps<L>,
-) -> Result<Answer, EvalFail>
-    requires scope { IsScope s.now }
-    requires rows { IsOverRows s.now }
-    ensures answer { AnswersAs plain_answer (texts_or (call_texts name.now (map arg_meaning args.now)) (vector_answer (meaning e.now).check (meaning e.now).value) (env_of V.bound s.now)) result }
-    ensures own { IfErr result IsOwn }
-{
-    let texts = call_texts(alloc, name, args)?;
-    match texts {
-        Some(names) => text_columns(alloc, &names, s, steps),
-        None => vector_answer(alloc, e, s, steps),
-    }
-}
-
-/// What the call e of this name with these arguments gives.
-fn call_answer<V: Vars, L: Ledger>(
-    alloc: Global,
-    e: &Expr,
-    name: &str,
-    args: &[Arg],
-    s: &Scope<'_, V>,
-    steps: &mut Steps<L>,
-) -> Result<Answer, EvalFail>
-    requires scope { IsScope s.now }
-    requires rows { IsOverRows s.now }
-    ensures answer { AnswersAs plain_answer (answer_by name.now (map arg_meaning args.now) (vector_answer (meaning e.now).check (meaning e.now).value) (env_of V.bound s.now)) result }
-    ensures own { IfErr result IsOwn }
-{
-    if is_list(name) {
-        return list_answer(alloc, name, args, s, steps);
-    }
-    texts_or_vector(alloc, e, name, args, s, steps)
-}
-
-/// What an expression gives as the j of a bracket over this scope.
-///
-/// `.( )` and `list( )` give a table, and are E19 with their word where they are empty. A text
-/// literal, and `c()` of such texts alone, give the columns of these names as a table. Any other
-/// expression gives a vector, its type first and then its value. dtq's own rule, docs/LANGUAGE.md,
-/// section "Brackets".
-#[tactic(auto, using(crate::proofs::TextFacts::calls))]
-pub fn answer_of<V: Vars, L: Ledger>(
+/// What j gives over the rows that were found.
+fn j_answer<V: Vars, L: Ledger>(
     alloc: Global,
     j: &Expr,
-    s: &Scope<'_, V>,
+    x: &Table,
+    vars: &V,
+    found: &Found,
     steps: &mut Steps<L>,
 ) -> Result<Answer, EvalFail>
-    requires scope { IsScope s.now }
-    requires rows { IsOverRows s.now }
-    ensures answer { AnswersAs plain_answer ((meaning j.now).answer (env_of V.bound s.now)) result }
+    requires { AreFound x.now found.now }
+    ensures answer { AnswersAs (plain_answer x.now)
+        (j_answer (meaning j.now) (V.bound vars.now) (found_of x.now found.now)) result }
+    ensures fits { IfOk result (λ a. OutcomeFits x.now a.outcome) }
     ensures own { IfErr result IsOwn }
 {
-    match j {
-        Expr::Lit { cell: _, kind: _ } => literal_answer(alloc, j, s, steps),
-        Expr::Null => vector_answer(alloc, j, s, steps),
-        Expr::Infinite => vector_answer(alloc, j, s, steps),
-        Expr::Name { name: _ } => vector_answer(alloc, j, s, steps),
-        Expr::Paren { inner: _ } => vector_answer(alloc, j, s, steps),
-        Expr::Minus { arg: _ } => vector_answer(alloc, j, s, steps),
-        Expr::Not { arg: _ } => vector_answer(alloc, j, s, steps),
-        Expr::Chain { first: _, rest: _ } => vector_answer(alloc, j, s, steps),
-        Expr::Call { name, args } => {
-            call_answer(alloc, j, name.as_str(), args.as_slice(), s, steps)
+    let around = surround(alloc, x, found, steps)?;
+    let s = around.scope(x, found, vars);
+    let computed = answer_of(alloc, j, &s, steps)?;
+    Ok(computed_answer(found.warns, computed))
+}
+
+/// What an assignment changes, as an answer.
+fn change_answer(assigned: Assigned) -> Answer
+    ensures outcome { result.outcome ≡ Changed assigned.change }
+    ensures warns { result.warns ≡ assigned.warns }
+{
+    Answer {
+        outcome: Outcome::Assigned(assigned.change),
+        warns: assigned.warns,
+    }
+}
+
+/// What `left := right` gives.
+fn assign_answer<V: Vars, L: Ledger>(
+    alloc: Global,
+    left: &Expr,
+    right: &Expr,
+    x: &Table,
+    vars: &V,
+    found: &Found,
+    steps: &mut Steps<L>,
+) -> Result<Answer, EvalFail>
+    requires { AreFound x.now found.now }
+    ensures answer { AnswersAs (plain_answer x.now)
+        (second_answer (is_chosen found.now) (Some (Assigns (meaning left.now) (meaning right.now)))
+        (plain x.now) (V.bound vars.now) (found_of x.now found.now)) result }
+    ensures fits { IfOk result (λ a. OutcomeFits x.now a.outcome) }
+    ensures own { IfErr result IsOwn }
+{
+    let made = assigned(alloc, left, right, x, vars, found, steps)?;
+    Ok(change_answer(made))
+}
+
+/// What the call of `:=` gives.
+fn assign_all_answer<V: Vars, L: Ledger>(
+    alloc: Global,
+    args: &[Arg],
+    x: &Table,
+    vars: &V,
+    found: &Found,
+    steps: &mut Steps<L>,
+) -> Result<Answer, EvalFail>
+    requires { AreFound x.now found.now }
+    ensures answer { AnswersAs (plain_answer x.now)
+        (second_answer (is_chosen found.now) (Some (AssignsAll (map arg_meaning args.now)))
+        (plain x.now) (V.bound vars.now) (found_of x.now found.now)) result }
+    ensures fits { IfOk result (λ a. OutcomeFits x.now a.outcome) }
+    ensures own { IfErr result IsOwn }
+{
+    let made = assigned_all(alloc, args, x, vars, found, steps)?;
+    Ok(change_answer(made))
+}
+
+/// What a j or an assignment gives over the rows that were found.
+fn given_answer<V: Vars, L: Ledger>(
+    alloc: Global,
+    second: &Second,
+    x: &Table,
+    vars: &V,
+    found: &Found,
+    steps: &mut Steps<L>,
+) -> Result<Answer, EvalFail>
+    requires { AreFound x.now found.now }
+    ensures answer { AnswersAs (plain_answer x.now)
+        (second_answer (is_chosen found.now) (Some (second_meaning second.now)) (plain x.now)
+        (V.bound vars.now) (found_of x.now found.now)) result }
+    ensures fits { IfOk result (λ a. OutcomeFits x.now a.outcome) }
+    ensures own { IfErr result IsOwn }
+{
+    match second {
+        Second::Value(j) => j_answer(alloc, j, x, vars, found, steps),
+        Second::Assign { left, right } => assign_answer(alloc, left, right, x, vars, found, steps),
+        Second::AssignAll { args } => {
+            assign_all_answer(alloc, args.as_slice(), x, vars, found, steps)
         }
-        Expr::Query {
-            head: _,
-            brackets: _,
-        } => vector_answer(alloc, j, s, steps),
-        Expr::Formula { left: _, right: _ } => vector_answer(alloc, j, s, steps),
+    }
+}
+
+/// What stands as j gives over the rows that were found; without j these rows.
+pub fn second_answer<V: Vars, L: Ledger>(
+    alloc: Global,
+    second: &Option<Second>,
+    x: &Table,
+    vars: &V,
+    found: &Found,
+    steps: &mut Steps<L>,
+) -> Result<Answer, EvalFail>
+    requires { AreFound x.now found.now }
+    ensures answer { AnswersAs (plain_answer x.now)
+        (second_answer (is_chosen found.now) (option_map second_meaning second.now) (plain x.now)
+        (V.bound vars.now) (found_of x.now found.now)) result }
+    ensures fits { IfOk result (λ a. OutcomeFits x.now a.outcome) }
+    ensures own { IfErr result IsOwn }
+{
+    match second {
+        None => rows_answer(alloc, x, found, steps),
+        Some(second) => given_answer(alloc, second, x, vars, found, steps),
     }
 }

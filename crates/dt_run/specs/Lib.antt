@@ -1,3 +1,4 @@
+pub mod Ending
 pub mod Exit
 pub mod Given
 pub mod Run

@@ -6,29 +6,35 @@
 --   ScriptEnds, FileEnds       either of the two; of bytes, or of a script that may not be there
 --   Whole files words w s v    the plain evaluation of the words: it has this status
 --   RunCut, CheckCut, ScriptCut, FileCut, CutOff
---                              the same where something outside failed
---   Answers ends cut s v       which of both a status tells
+--                              the same where a put or a write failed, or memory was wanting
+--   RunBefore, ScriptBefore, AskedBefore, CutBefore
+--                              the same where a read failed
+--   Answers ends cut before v s  which of the three a status tells
+--   ScriptAnswers, FileAnswers, AskedAnswers
+--                              the same of a script's bytes, of a script, of what is asked for
 --   Headline held words w v s  the theorem on `run`
 --   IsByWords words s          usage is told exactly by the words
 --   StopsWith held b v m l     a fault is told on `err`, which held b; where the files tell nothing, it
 --                              tells a file as absent, or too long, only where m, or l, holds
 -- In each but the last w is the world before, and v the one that is left, and the files are told
 -- wherever these speak.
-use Rattle.std.specs.Prelude.{◌≡◌, ◌⊎◌, ℕ, Bool, true, false, List, [], Option, None, Some, IsNone, Result, Ok, Err, codes}
+use Rattle.std.specs.Prelude.{◌≡◌, ◌⊎◌, ℕ, Bool, true, false, List, [], Option, None, Some, IsNone}
+use Rattle.std.specs.Prelude.{Result, Ok, Err, codes}
 use Rattle.std.specs.Option.{is_some}
 use Rattle.std.specs.FinMap as finite
 use Rattle.dt_base.specs.declared.fault.Fault.{Fault}
 use Rattle.dt_base.specs.declared.limits.TheConstants.{MAX_SCRIPT_BYTES}
-use Rattle.dt_model.specs.State.{State, empty_state}
+use Rattle.dt_session.specs.Answers.{IsCutBefore}
 use Rattle.dt_session.specs.Lines.{EndsInFault}
 use Rattle.dt_tree.specs.declared.fault.ScriptFault.{ScriptFault}
 use Rattle.dt_tree.specs.declared.tree.Script.{Script}
 use Rattle.dt_world.specs.Told.{FileMap}
 use Rattle.run_model.specs.Reading.{IsReadAs, IsRefused}
 use Rattle.session_model.specs.Evaluation.{End, Evaluates, IsCutOff, line_of, script_fault}
+use Rattle.session_model.specs.Session.{SessionState, empty_session}
 use Rattle.session_model.specs.Value.{file_bytes}
 use Rattle.session_model.specs.World.{World, Pieces, Parted, after, fault_pieces}
-use Rattle.stmt_value.specs.Answers.{cause_of}
+use Rattle.file_value.specs.Answers.{cause_of}
 use Rattle.dt_run.specs.Words.{Asked, asked}
 use Rattle.dt_run.specs.declared.status.Status.{Status}
 use Rattle.dt_run.specs.declared.status.Status.TheVariants.{Done, Stopped, Usage, ReadFault, WriteFault, NoMemory}
@@ -53,15 +59,18 @@ abbrev pub status_of : Option (ℕ × Fault) → Status
 status_of None = Done
 status_of (Some f) = Stopped
 
--- The script of these bytes is evaluated from the state without names, to an end of this status and
--- this world.
+-- The script of these bytes is evaluated from an empty session, to an end of this status and this
+-- world.
 abbrev pub Runs : List ℕ → World → Status → World → Type 0
-Runs bytes w s v = (e : End) × Evaluates bytes empty_state w e × (s ≡ status_of e.fault) × (v ≡ e.world)
+Runs bytes w s v = (e : End) × Evaluates bytes empty_session w e × (s ≡ status_of e.fault) × (v ≡ e.world)
 
 -- The bytes are a script, and nothing is put; or their first fault is told.
 pub data Checks (bytes : List ℕ) (w : World) (s : Status) (v : World) : Type 0 where
   reads : (t : Script) → IsReadAs bytes t → s ≡ Done → v ≡ w → Checks bytes w s v
-  refuses : (f : ScriptFault) → IsRefused bytes f → s ≡ Stopped → v ≡ after w (fault_pieces (line_of f) (script_fault f)) → Checks bytes w s v
+  refuses :
+      (f : ScriptFault) → IsRefused bytes f → s ≡ Stopped →
+      v ≡ after w (fault_pieces (line_of f) (script_fault f)) →
+      Checks bytes w s v
 
 -- the script of these bytes is only read, or run
 abbrev pub ScriptEnds : Bool → List ℕ → World → Status → World → Type 0
@@ -84,11 +93,13 @@ Whole files words = AskedEnds files (asked words)
 
 -- For one j the first j statements were done, and a first part of the next one; or nothing was.
 abbrev pub RunCut : List ℕ → World → World → Type 0
-RunCut bytes w v = (v ≡ w) ⊎ ((j : ℕ) × (line : ℕ) × (now : State) × IsCutOff bytes empty_state w j line now v)
+RunCut bytes w v =
+    (v ≡ w) ⊎ ((j : ℕ) × (line : ℕ) × (now : SessionState) × IsCutOff bytes empty_session w j line now v)
 
 -- a first part of the fault's line was put; or nothing was
 abbrev pub CheckCut : List ℕ → World → World → Type 0
-CheckCut bytes w v = (v ≡ w) ⊎ ((f : ScriptFault) × IsRefused bytes f × Parted w (fault_pieces (line_of f) (script_fault f)) v)
+CheckCut bytes w v =
+    (v ≡ w) ⊎ ((f : ScriptFault) × IsRefused bytes f × Parted w (fault_pieces (line_of f) (script_fault f)) v)
 
 abbrev pub ScriptCut : Bool → List ℕ → World → World → Type 0
 ScriptCut true = CheckCut
@@ -102,18 +113,53 @@ abbrev pub AskedCut : FileMap → Option Asked → World → World → Type 0
 AskedCut files None w v = Parted w usage v
 AskedCut files (Some a) w v = FileCut a.is_check (script_bytes files a.script) w v
 
--- what stands where something outside failed
+-- what stands where a put or a write failed, or memory was wanting
 abbrev pub CutOff : FileMap → List (List ℕ) → World → World → Type 0
 CutOff files words = AskedCut files (asked words)
 
--- A run that ended by itself ended so, and one that was cut off left this.
-abbrev pub Answers : (Status → World → Type 0) → (World → Type 0) → World → Status → Type 0
-Answers ends cut v Done = ends Done v
-Answers ends cut v Stopped = ends Stopped v
-Answers ends cut v Usage = ends Usage v
-Answers ends cut v ReadFault = cut v
-Answers ends cut v WriteFault = cut v
-Answers ends cut v NoMemory = cut v
+-- For one j the first j statements were done, and of the next one nothing.
+abbrev pub RunBefore : List ℕ → World → World → Type 0
+RunBefore bytes w v =
+    (j : ℕ) × (line : ℕ) × (now : SessionState) × IsCutBefore bytes empty_session w j line now v
+
+-- a script that is only read reads nothing else
+abbrev pub ScriptBefore : Bool → List ℕ → World → World → Type 0
+ScriptBefore true bytes w v = ⊥
+ScriptBefore false bytes w v = RunBefore bytes w v
+
+abbrev pub FileBefore : Bool → Result (List ℕ) Fault → World → World → Type 0
+FileBefore check (Ok bytes) w v = ScriptBefore check bytes w v
+FileBefore check (Err f) w v = ⊥
+
+-- the read of the script failed, and nothing was put; or one of its statements'
+abbrev pub AskedBefore : FileMap → Option Asked → World → World → Type 0
+AskedBefore files None w v = ⊥
+AskedBefore files (Some a) w v = (v ≡ w) ⊎ FileBefore a.is_check (script_bytes files a.script) w v
+
+-- what stands where a read failed
+abbrev pub CutBefore : FileMap → List (List ℕ) → World → World → Type 0
+CutBefore files words = AskedBefore files (asked words)
+
+-- A run that ended by itself ended so, one in which a read failed has put nothing of the statement that
+-- read, and one that was cut off otherwise left this.
+abbrev pub Answers : (Status → World → Type 0) → (World → Type 0) → (World → Type 0) → World → Status → Type 0
+Answers ends cut before v Done = ends Done v
+Answers ends cut before v Stopped = ends Stopped v
+Answers ends cut before v Usage = ends Usage v
+Answers ends cut before v ReadFault = before v
+Answers ends cut before v WriteFault = cut v
+Answers ends cut before v NoMemory = cut v
+
+-- the same of the script of these bytes, of a script that may not be there, and of what is asked for
+abbrev pub ScriptAnswers : Bool → List ℕ → World → World → Status → Type 0
+ScriptAnswers check bytes w =
+    Answers (ScriptEnds check bytes w) (ScriptCut check bytes w) (ScriptBefore check bytes w)
+
+abbrev pub FileAnswers : Bool → Result (List ℕ) Fault → World → World → Status → Type 0
+FileAnswers check o w = Answers (FileEnds check o w) (FileCut check o w) (FileBefore check o w)
+
+abbrev pub AskedAnswers : FileMap → Option Asked → World → World → Status → Type 0
+AskedAnswers files asked w = Answers (AskedEnds files asked w) (AskedCut files asked w) (AskedBefore files asked w)
 
 -- where the files tell, the fact holds of them
 abbrev pub Told : Option FileMap → (FileMap → Type 0) → Type 0
@@ -122,7 +168,8 @@ Told (Some files) P = P files
 
 -- the theorem on `run`, at every list of words
 abbrev pub Headline : Option FileMap → List (List ℕ) → World → World → Status → Type 0
-Headline held words w v s = Told held (λ files. Answers (Whole files words w) (CutOff files words w) v s)
+Headline held words w v s =
+    Told held (λ files. Answers (Whole files words w) (CutOff files words w) (CutBefore files words w) v s)
 
 -- The usage is told only where the words ask for nothing, and where they do nothing else is, unless
 -- `err` failed or memory was wanting.

@@ -9,7 +9,8 @@
 --   LacksScript all      the command does not take the words, or they have no SCRIPT
 --   IsPlainWord word     the word is not empty and does not begin with `-`
 --   TakesPlainWords      the law: a plain word asks for that script, also behind --check
-use Rattle.std.specs.Prelude.{◌≡◌, ◌==◌, ◌⊎◌, ℕ, Bool, true, false, if◌then◌else◌, List, [], ◌∷◌, Option, None, Some, codes, option_map}
+use Rattle.std.specs.Prelude.{◌≡◌, ◌==◌, ◌⊎◌, ℕ, Bool, true, false, if◌then◌else◌, List, [], ◌∷◌}
+use Rattle.std.specs.Prelude.{Option, None, Some, codes, option_map}
 use Rattle.std.specs.Str.{bytes_eq}
 use Rattle.std.specs.Option.{option_map_or}
 use Rattle.clap.specs.Walk.{is_empty}
@@ -74,4 +75,5 @@ AsksFor words q check =
 -- a plain word asks for the run of that script, and behind --check for its reading
 abbrev pub TakesPlainWords : Type 0
 TakesPlainWords =
-    (word : List ℕ) → IsPlainWord word → AsksFor (word ∷ []) word false × AsksFor (codes "--check" ∷ word ∷ []) word true
+    (word : List ℕ) → IsPlainWord word →
+    AsksFor (word ∷ []) word false × AsksFor (codes "--check" ∷ word ∷ []) word true

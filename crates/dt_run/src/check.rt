@@ -13,7 +13,8 @@ use std::alloc::Global;
 /// Reads the script of these bytes and does nothing more.
 pub fn check_script<E: Sink>(alloc: Global, bytes: &[u8], err: &mut E) -> Status
     requires { length bytes.now ≤ MAX_SCRIPT_BYTES }
-    ensures end { CheckedAs bytes.now (E.bytes err.old) (E.bytes err.new) (Rose (E.faults err.old) (E.faults err.new)) result }
+    ensures end { CheckedAs bytes.now (E.bytes err.old) (E.bytes err.new)
+        (Rose (E.faults err.old) (E.faults err.new)) result }
     ensures quiet { CountsOwn ⊤ (E.faults err.new ≡ E.faults err.old) result }
 {
     match parse(alloc, bytes) {

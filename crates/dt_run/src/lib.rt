@@ -5,8 +5,8 @@
 //! - `check` reads a script and does no more; `telling` puts the lines that `run` itself tells.
 //! - `Status` is how a run ended, with the number that the program ends with.
 //!
-//! It stands on `dt_session` for scripts, on `dt_script` for `--check`, on `dt_world` for the outside
-//! and on `dt_print` for the lines of faults.
+//! It stands on `dt_session` for scripts, on `dt_script` for `--check`, on `dt_world` for the
+//! outside and on `dt_print` for the lines of faults.
 //!
 //! It promises that the files, what is put and the status are those of the plain evaluation of the
 //! words, `Headline` in specs/Run; that the usage is told by the words alone; and that each answer

@@ -1,12 +1,10 @@
 //! The top call: from words to what is put, and a status.
-ghost use Rattle.std.specs.Prelude.{◌≡◌, ◌≤◌, IsSome, length, map, string_bytes, true, false, is_some};
-ghost use Rattle.dt_world.specs.Causes.{Rose};
-ghost use Rattle.session_model.specs.World.{world};
-ghost use Rattle.dt_session.specs.Answers.{AnyRose};
+ghost use Rattle.std.specs.Prelude.{◌≡◌, ◌≤◌, length, map, string_bytes, false};
+ghost use Rattle.file_value.specs.Reads.{files_seen};
+ghost use Rattle.dt_session.specs.Outside.{outside, sink_seen};
+ghost use Rattle.dt_run.specs.Ending.{IsAskedEnd, IsRun, IsScriptEnd};
 ghost use Rattle.dt_run.specs.Given.{meant, texts};
-ghost use Rattle.dt_run.specs.Run.{Answers, AskedCut, AskedEnds, Headline, IsByWords, NeedsScript, ScriptCut, ScriptEnds, StopsWith, Told};
-ghost use Rattle.dt_run.specs.Steps.{CountsOwn};
-ghost use Rattle.dt_run.specs.Words.{LacksScript, all_asked, with_name};
+ghost use Rattle.dt_run.specs.Words.{LacksScript, all_asked};
 
 use crate::check::check_script;
 use crate::status::{Status, status_for};
@@ -29,14 +27,12 @@ fn run_bytes<F: Files, O: Sink, E: Sink, L: Ledger>(
     steps: &mut Steps<L>,
 ) -> Status
     requires { length bytes.now ≤ MAX_SCRIPT_BYTES }
-    ensures ends { IsSome (F.held files.old) → Answers (ScriptEnds false bytes.now (world (F.held files.old) (O.bytes out.old) (E.bytes err.old))) (ScriptCut false bytes.now (world (F.held files.old) (O.bytes out.old) (E.bytes err.old))) (world (F.held files.new) (O.bytes out.new) (E.bytes err.new)) result }
-    ensures words { NeedsScript result true }
-    ensures read { result ≡ Status.ReadFault → Rose (F.read_faults files.old) (F.read_faults files.new) }
-    ensures write { result ≡ Status.WriteFault → AnyRose (Rose (O.faults out.old) (O.faults out.new)) (Rose (E.faults err.old) (E.faults err.new)) (Rose (F.write_faults files.old) (F.write_faults files.new)) }
-    ensures quiet { CountsOwn (F.read_faults files.new ≡ F.read_faults files.old)
-        ((O.faults out.new ≡ O.faults out.old) × (E.faults err.new ≡ E.faults err.old) × (F.write_faults files.new ≡ F.write_faults files.old)) result }
-    ensures stopped { result ≡ Status.Stopped → StopsWith (F.held files.old) (E.bytes err.old) (E.bytes err.new) (Rose (F.misses files.old) (F.misses files.new)) (Rose (F.longs files.old) (F.longs files.new)) }
-    ensures reads { F.read_faults files.old ≤ F.read_faults files.new }
+    ensures { IsScriptEnd false bytes.now
+        (outside (files_seen F.held F.read_faults F.misses F.longs F.write_faults files.old)
+        (sink_seen O.bytes O.faults out.old) (sink_seen E.bytes E.faults err.old))
+        (outside (files_seen F.held F.read_faults F.misses F.longs F.write_faults files.new)
+        (sink_seen O.bytes O.faults out.new) (sink_seen E.bytes E.faults err.new))
+        result }
 {
     let mut session = Session::new(alloc);
     match run_script(&mut session, bytes, files, out, err, steps) {
@@ -56,14 +52,12 @@ fn run_or_check<F: Files, O: Sink, E: Sink, L: Ledger>(
     steps: &mut Steps<L>,
 ) -> Status
     requires { length bytes.now ≤ MAX_SCRIPT_BYTES }
-    ensures ends { IsSome (F.held files.old) → Answers (ScriptEnds is_check bytes.now (world (F.held files.old) (O.bytes out.old) (E.bytes err.old))) (ScriptCut is_check bytes.now (world (F.held files.old) (O.bytes out.old) (E.bytes err.old))) (world (F.held files.new) (O.bytes out.new) (E.bytes err.new)) result }
-    ensures words { NeedsScript result true }
-    ensures read { result ≡ Status.ReadFault → Rose (F.read_faults files.old) (F.read_faults files.new) }
-    ensures write { result ≡ Status.WriteFault → AnyRose (Rose (O.faults out.old) (O.faults out.new)) (Rose (E.faults err.old) (E.faults err.new)) (Rose (F.write_faults files.old) (F.write_faults files.new)) }
-    ensures quiet { CountsOwn (F.read_faults files.new ≡ F.read_faults files.old)
-        ((O.faults out.new ≡ O.faults out.old) × (E.faults err.new ≡ E.faults err.old) × (F.write_faults files.new ≡ F.write_faults files.old)) result }
-    ensures stopped { result ≡ Status.Stopped → StopsWith (F.held files.old) (E.bytes err.old) (E.bytes err.new) (Rose (F.misses files.old) (F.misses files.new)) (Rose (F.longs files.old) (F.longs files.new)) }
-    ensures reads { F.read_faults files.old ≤ F.read_faults files.new }
+    ensures { IsScriptEnd is_check bytes.now
+        (outside (files_seen F.held F.read_faults F.misses F.longs F.write_faults files.old)
+        (sink_seen O.bytes O.faults out.old) (sink_seen E.bytes E.faults err.old))
+        (outside (files_seen F.held F.read_faults F.misses F.longs F.write_faults files.new)
+        (sink_seen O.bytes O.faults out.new) (sink_seen E.bytes E.faults err.new))
+        result }
 {
     if is_check {
         check_script(alloc, bytes, err)
@@ -81,13 +75,12 @@ fn run_asked<F: Files, O: Sink, E: Sink, L: Ledger>(
     err: &mut E,
     steps: &mut Steps<L>,
 ) -> Status
-    ensures ends { Told (F.held files.old) (λ m. Answers (AskedEnds m (Some (meant asked.now)) (world (F.held files.old) (O.bytes out.old) (E.bytes err.old))) (AskedCut m (Some (meant asked.now)) (world (F.held files.old) (O.bytes out.old) (E.bytes err.old))) (world (F.held files.new) (O.bytes out.new) (E.bytes err.new)) result) }
-    ensures words { NeedsScript result true }
-    ensures read { result ≡ Status.ReadFault → Rose (F.read_faults files.old) (F.read_faults files.new) }
-    ensures write { result ≡ Status.WriteFault → AnyRose (Rose (O.faults out.old) (O.faults out.new)) (Rose (E.faults err.old) (E.faults err.new)) (Rose (F.write_faults files.old) (F.write_faults files.new)) }
-    ensures quiet { CountsOwn (F.read_faults files.new ≡ F.read_faults files.old)
-        ((O.faults out.new ≡ O.faults out.old) × (E.faults err.new ≡ E.faults err.old) × (F.write_faults files.new ≡ F.write_faults files.old)) result }
-    ensures stopped { result ≡ Status.Stopped → StopsWith (F.held files.old) (E.bytes err.old) (E.bytes err.new) (Rose (F.misses files.old) (F.misses files.new)) (Rose (F.longs files.old) (F.longs files.new)) }
+    ensures { IsAskedEnd (Some (meant asked.now))
+        (outside (files_seen F.held F.read_faults F.misses F.longs F.write_faults files.old)
+        (sink_seen O.bytes O.faults out.old) (sink_seen E.bytes E.faults err.old))
+        (outside (files_seen F.held F.read_faults F.misses F.longs F.write_faults files.new)
+        (sink_seen O.bytes O.faults out.new) (sink_seen E.bytes E.faults err.new))
+        result }
 {
     match files.read(asked.script, MAX_SCRIPT_BYTES) {
         Ok(bytes) => run_or_check(alloc, &bytes, asked.is_check, files, out, err, steps),
@@ -107,14 +100,13 @@ fn run_named<F: Files, O: Sink, E: Sink, L: Ledger>(
     err: &mut E,
     steps: &mut Steps<L>,
 ) -> Status
-    ensures ends { Told (F.held files.old) (λ m. Answers (AskedEnds m (all_asked (texts words.now)) (world (F.held files.old) (O.bytes out.old) (E.bytes err.old))) (AskedCut m (all_asked (texts words.now)) (world (F.held files.old) (O.bytes out.old) (E.bytes err.old))) (world (F.held files.new) (O.bytes out.new) (E.bytes err.new)) result) }
-    ensures words { NeedsScript result (is_some (all_asked (texts words.now))) }
+    ensures ends { IsAskedEnd (all_asked (texts words.now))
+        (outside (files_seen F.held F.read_faults F.misses F.longs F.write_faults files.old)
+        (sink_seen O.bytes O.faults out.old) (sink_seen E.bytes E.faults err.old))
+        (outside (files_seen F.held F.read_faults F.misses F.longs F.write_faults files.new)
+        (sink_seen O.bytes O.faults out.new) (sink_seen E.bytes E.faults err.new))
+        result }
     ensures usage { result ≡ Status.Usage → LacksScript (texts words.now) }
-    ensures read { result ≡ Status.ReadFault → Rose (F.read_faults files.old) (F.read_faults files.new) }
-    ensures write { result ≡ Status.WriteFault → AnyRose (Rose (O.faults out.old) (O.faults out.new)) (Rose (E.faults err.old) (E.faults err.new)) (Rose (F.write_faults files.old) (F.write_faults files.new)) }
-    ensures quiet { CountsOwn (F.read_faults files.new ≡ F.read_faults files.old)
-        ((O.faults out.new ≡ O.faults out.old) × (E.faults err.new ≡ E.faults err.old) × (F.write_faults files.new ≡ F.write_faults files.old)) result }
-    ensures stopped { result ≡ Status.Stopped → StopsWith (F.held files.old) (E.bytes err.old) (E.bytes err.new) (Rose (F.misses files.old) (F.misses files.new)) (Rose (F.longs files.old) (F.longs files.new)) }
 {
     match asked_by(alloc, words) {
         Ok(Some(asked)) => run_asked(alloc, &asked, files, out, err, steps),
@@ -125,17 +117,17 @@ fn run_named<F: Files, O: Sink, E: Sink, L: Ledger>(
 
 /// Runs the program on the words after its name: `SCRIPT` is run, and behind `--check` only read.
 ///
-/// Whenever it answers `Done`, `Stopped` or `Usage`, the files, the bytes put on `out` and `err` and
-/// the status are exactly those of the plain evaluation of the words. At any other answer they are,
-/// for one number of statements, what so many give and a first part of what the next one gives, or
-/// a first part of the one line that the plain evaluation tells. `Usage` comes by the words alone,
-/// `ReadFault` only where a read failed, `WriteFault` only where a put or a write failed, and
-/// `NoMemory` where memory was wanting. Of the counts of what failed only the one that is answered
-/// may have risen, so that none of these stands for another.
+/// Whenever it answers `Done`, `Stopped` or `Usage`, the files, the bytes put on `out` and `err`
+/// and the status are exactly those of the plain evaluation of the words. At any other answer they
+/// are, for one number of statements, what so many give and a first part of what the next one
+/// gives, or a first part of the one line that the plain evaluation tells. `Usage` comes by the
+/// words alone, `ReadFault` only where a read failed, `WriteFault` only where a put or a write
+/// failed, and `NoMemory` where memory was wanting. Of the counts of what failed only the one that
+/// is answered may have risen, so that none of these stands for another.
 ///
-/// At `Stopped` what came on `err` is the lines of warnings, and then the line of one fault. Where the
-/// files tell nothing of what they hold, that fault is E15 or E16 only where `files` counted a read
-/// that found no file, or one that was too long.
+/// At `Stopped` what came on `err` is the lines of warnings, and then the line of one fault. Where
+/// the files tell nothing of what they hold, that fault is E15 or E16 only where `files` counted a
+/// read that found no file, or one that was too long.
 ///
 /// dtq's own rule, docs/LANGUAGE.md, section What runs today.
 pub fn run<F: Files, O: Sink, E: Sink, L: Ledger>(
@@ -146,14 +138,12 @@ pub fn run<F: Files, O: Sink, E: Sink, L: Ledger>(
     err: &mut E,
     steps: &mut Steps<L>,
 ) -> Status
-    ensures headline { Headline (F.held files.old) (map string_bytes words.now) (world (F.held files.old) (O.bytes out.old) (E.bytes err.old)) (world (F.held files.new) (O.bytes out.new) (E.bytes err.new)) result }
-    ensures words { IsByWords (map string_bytes words.now) result }
-    ensures usage { result ≡ Status.Usage → LacksScript (with_name (map string_bytes words.now)) }
-    ensures read { result ≡ Status.ReadFault → Rose (F.read_faults files.old) (F.read_faults files.new) }
-    ensures write { result ≡ Status.WriteFault → AnyRose (Rose (O.faults out.old) (O.faults out.new)) (Rose (E.faults err.old) (E.faults err.new)) (Rose (F.write_faults files.old) (F.write_faults files.new)) }
-    ensures quiet { CountsOwn (F.read_faults files.new ≡ F.read_faults files.old)
-        ((O.faults out.new ≡ O.faults out.old) × (E.faults err.new ≡ E.faults err.old) × (F.write_faults files.new ≡ F.write_faults files.old)) result }
-    ensures stopped { result ≡ Status.Stopped → StopsWith (F.held files.old) (E.bytes err.old) (E.bytes err.new) (Rose (F.misses files.old) (F.misses files.new)) (Rose (F.longs files.old) (F.longs files.new)) }
+    ensures { IsRun (map string_bytes words.now)
+        (outside (files_seen F.held F.read_faults F.misses F.longs F.write_faults files.old)
+        (sink_seen O.bytes O.faults out.old) (sink_seen E.bytes E.faults err.old))
+        (outside (files_seen F.held F.read_faults F.misses F.longs F.write_faults files.new)
+        (sink_seen O.bytes O.faults out.new) (sink_seen E.bytes E.faults err.new))
+        result }
 {
     match named_words(alloc, words) {
         Ok(words) => run_named(alloc, &words, files, out, err, steps),

@@ -14,7 +14,9 @@ use std::alloc::Global;
 
 /// Puts the line of a fault.
 pub fn tell<E: Sink>(alloc: Global, line: u32, fault: &Fault, err: &mut E) -> Status
-    ensures put { PutAs Status.Stopped (E.bytes err.old) (E.bytes err.new) (printed_fault line fault.now) (Rose (E.faults err.old) (E.faults err.new)) result }
+    ensures put { PutAs Status.Stopped (E.bytes err.old) (E.bytes err.new)
+        (printed_fault line fault.now)
+        (Rose (E.faults err.old) (E.faults err.new)) result }
     ensures quiet { CountsOwn ⊤ (E.faults err.new ≡ E.faults err.old) result }
 {
     let Ok(text) = fault_line(alloc, line, fault) else {
@@ -29,7 +31,8 @@ pub fn tell<E: Sink>(alloc: Global, line: u32, fault: &Fault, err: &mut E) -> St
 
 /// Puts how the program is called.
 pub fn tell_usage<E: Sink>(err: &mut E) -> Status
-    ensures put { PutAs Status.Usage (E.bytes err.old) (E.bytes err.new) usage_line (Rose (E.faults err.old) (E.faults err.new)) result }
+    ensures put { PutAs Status.Usage (E.bytes err.old) (E.bytes err.new) usage_line
+        (Rose (E.faults err.old) (E.faults err.new)) result }
     ensures quiet { CountsOwn ⊤ (E.faults err.new ≡ E.faults err.old) result }
 {
     match err.put(b"usage: dtq [--check] SCRIPT | dtq --gen N\n") {
@@ -41,7 +44,9 @@ pub fn tell_usage<E: Sink>(err: &mut E) -> Status
 
 /// Tells that there is no script of this name.
 pub fn tell_absent<E: Sink>(alloc: Global, name: &str, err: &mut E) -> Status
-    ensures put { PutAs Status.Stopped (E.bytes err.old) (E.bytes err.new) (printed_fault 0 (absent name.now)) (Rose (E.faults err.old) (E.faults err.new)) result }
+    ensures put { PutAs Status.Stopped (E.bytes err.old) (E.bytes err.new)
+        (printed_fault 0 (absent name.now))
+        (Rose (E.faults err.old) (E.faults err.new)) result }
     ensures quiet { CountsOwn ⊤ (E.faults err.new ≡ E.faults err.old) result }
 {
     match Fault::of(alloc, Code::E15, name) {
@@ -52,7 +57,9 @@ pub fn tell_absent<E: Sink>(alloc: Global, name: &str, err: &mut E) -> Status
 
 /// Tells that the script of this name is too long.
 pub fn tell_too_long<E: Sink>(alloc: Global, name: &str, err: &mut E) -> Status
-    ensures put { PutAs Status.Stopped (E.bytes err.old) (E.bytes err.new) (printed_fault 0 (too_long name.now)) (Rose (E.faults err.old) (E.faults err.new)) result }
+    ensures put { PutAs Status.Stopped (E.bytes err.old) (E.bytes err.new)
+        (printed_fault 0 (too_long name.now))
+        (Rose (E.faults err.old) (E.faults err.new)) result }
     ensures quiet { CountsOwn ⊤ (E.faults err.new ≡ E.faults err.old) result }
 {
     match Text::make(alloc, name) {

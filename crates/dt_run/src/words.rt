@@ -1,7 +1,8 @@
 ghost use Rattle.std.specs.Prelude.{◌≡◌, ◌≢◌, IfOk, IfNone, None, map, option_map, string_bytes};
 ghost use Rattle.clap.specs.Words.{app_of, found_of, kind_of, rows_of};
 ghost use Rattle.clap.specs.declared.error.kind.ErrorKind.TheVariants.{OutOfMemory};
-ghost use Rattle.dt_run.specs.Words.{LacksScript, TakesPlainWords, all_asked, dtq, is_checked, rows_asked, with_name};
+ghost use Rattle.dt_run.specs.Words.{LacksScript, TakesPlainWords, all_asked, dtq, is_checked};
+ghost use Rattle.dt_run.specs.Words.{rows_asked, with_name};
 ghost use Rattle.dt_run.specs.Given.{meant, texts};
 
 use clap::error::ErrorKind;

@@ -19,13 +19,24 @@ one = record {
   either = not_both_tokens;
 }
 
-pub only_reading : (s : List ℕ) (us : List Placed) (script : Script) → AreTokens s us → Reads (plain_tokens us) (Ok script) → IsOnlyReading s script
+pub only_reading : (s : List ℕ) (us : List Placed) (script : Script) → AreTokens s us
+    → Reads (plain_tokens us) (Ok script) → IsOnlyReading s script
 only_reading s us script cut h =
     let reading : IsReadAs s script = record { tokens = us; cut = cut; spelled = h.0; right = h.1 } in
-    record { reading = reading; only = λ other r. one_reading one s script other reading r; no_fault = λ f r. not_both one s script f reading r }
+    record {
+      reading = reading;
+      only = λ other r. one_reading one s script other reading r;
+      no_fault = λ f r. not_both one s script f reading r;
+    }
 
 only_fault : (s : List ℕ) (f : ScriptFault) → IsRefused s f → IsOnlyFault s (fail_of f)
-only_fault s f h = record { fault = f; refused = h; told = refl; only = λ g r. one_refusal one s f g h r; no_script = λ script r. not_both one s script f r h }
+only_fault s f h = record {
+  fault = f;
+  refused = h;
+  told = refl;
+  only = λ g r. one_refusal one s f g h r;
+  no_script = λ script r. not_both one s script f r h;
+}
 
 pub fails_as : (s : List ℕ) (f : ScriptFault) → IsRefused s f → FailsAs s (fail_of f)
 fails_as s NotUtf8 h = only_fault s NotUtf8 h

@@ -1,17 +1,20 @@
 -- The place of a fault.
-use Rattle.std.proofs.Common.{◌≡◌, ℕ, zero, suc, ◌<◌, ◌≤◌, List, [], ◌∷◌, length, drop, cond, Bool, true, false, get_or, refl, sym, ap, arith, length-drop, nat_eq}
+use Rattle.std.proofs.Common.{◌≡◌, ℕ, zero, suc, ◌<◌, ◌≤◌, List, [], ◌∷◌, length, drop, cond, Bool, true, false, get_or}
+use Rattle.std.proofs.Common.{refl, sym, ap, arith, length-drop, nat_eq}
 use Rattle.std.specs.List.{starts_with}
 use Rattle.dt_tree.specs.declared.token.Placed.{Placed}
 use Rattle.run_model.specs.Places.{place_at}
 use Rattle.run_model.specs.Tokens.{mark, unmarked}
 use Rattle.run_model.specs.Reading.{fault_place}
 
-pub fault_place-some : (s : List ℕ) (us : List Placed) (n : ℕ) (u : Placed) → n < length us → u ≡ get_or us n u → fault_place s us n ≡ u.at
+pub fault_place-some : (s : List ℕ) (us : List Placed) (n : ℕ) (u : Placed) → n < length us → u ≡ get_or us n u
+    → fault_place s us n ≡ u.at
 fault_place-some s [] n u lt e = absurd (omega arith)
 fault_place-some s (v ∷ us) zero u lt e = ap (λ (x : Placed). x.at) (sym e)
 fault_place-some s (v ∷ us) (suc n) u lt e = fault_place-some s us n u (omega arith) e
 
-pub fault_place-none : (s : List ℕ) (us : List Placed) (n : ℕ) → length us ≤ n → fault_place s us n ≡ place_at s (length s)
+pub fault_place-none : (s : List ℕ) (us : List Placed) (n : ℕ) → length us ≤ n
+    → fault_place s us n ≡ place_at s (length s)
 fault_place-none s [] n h = refl
 fault_place-none s (v ∷ us) zero h = absurd (omega arith)
 fault_place-none s (v ∷ us) (suc n) h = fault_place-none s us n (omega arith)

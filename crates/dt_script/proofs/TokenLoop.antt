@@ -7,7 +7,8 @@ use Rattle.run_model.specs.TokenView.{plain_token, plain_tokens}
 use Rattle.dt_grammar.specs.Machine.{State, step, run, init}
 use Rattle.dt_grammar.proofs.Loop.{run_more, fault_here}
 
-module _ (us : List Placed) (i : ℕ) (u : Placed) (s : State) (x : Token) (lt : i < length us) (here : u ≡ get_or us i u) (same : x ≡ plain_token u.token) (e : run init (plain_tokens (take i us)) ≡ Some s) where
+module _ (us : List Placed) (i : ℕ) (u : Placed) (s : State) (x : Token) (lt : i < length us) (here : u ≡ get_or us i u)
+    (same : x ≡ plain_token u.token) (e : run init (plain_tokens (take i us)) ≡ Some s) where
   this_step : step s (plain_token (get_or us i u).token) ≡ step s x
   this_step = ap (λ z. step s (plain_token z.token)) (sym here) ∙ ap (step s) (sym same)
 

@@ -2,17 +2,13 @@ ghost use Rattle.std.specs.Prelude.{◌≡◌, ◌∷◌, suc, IfOk, Some, optio
 ghost use Rattle.run_model.specs.Grammar as grammar;
 ghost use Rattle.run_model.specs.TreeView.{tree_of};
 ghost use Rattle.dt_grammar.specs.Machine as model;
-ghost use Rattle.dt_script.specs.Ends.{end_step};
-ghost use Rattle.dt_script.specs.Frames.{frame_of, frames_of, state_of, symbol_of};
+ghost use Rattle.script_frames.specs.Ends.{end_step};
+ghost use Rattle.script_frames.specs.Frames.{frame_of, frames_of, state_of, symbol_of};
 
-use crate::brackets::head_of;
-use crate::endings::made_at;
-use crate::frames::{End, Filled, Frame, State, Symbol};
-use crate::levels::level;
-use crate::naming::{arrow, naming, opens};
-use crate::operators::{close, infix_op};
-use crate::stack::{enter, settle};
 use dt_tree::{BinOp, Expr};
+use script_brackets::{head_of, made_at};
+use script_frames::{End, Filled, Frame, State, Symbol};
+use script_operators::{arrow, close, enter, infix_op, level, naming, opens, settle};
 use std::alloc::{AllocError, Global};
 
 /// A two-sided operator behind an expression: it ends what binds more tightly.
@@ -23,7 +19,8 @@ fn operator(
     operand: Expr,
 ) -> Result<Option<State>, AllocError>
     ensures { IfOk result (λ next. option_map state_of next
-        ≡ model.infix_op op (model.close (suc (grammar.level op)) (frames_of frames.items) (tree_of operand))) }
+        ≡ model.infix_op op (model.close (suc (grammar.level op)) (frames_of frames.items)
+        (tree_of operand))) }
 {
     let (frames, operand) = close(alloc, frames, operand, level(op) + 1)?;
     infix_op(alloc, op, frames, operand)
@@ -36,7 +33,8 @@ fn begin_bracket(
     operand: Expr,
 ) -> Result<Option<State>, AllocError>
     ensures { IfOk result (λ next. option_map state_of next
-        ≡ Some (model.Want (model.InItem (model.head_of (tree_of operand)) grammar.Nothing ∷ frames_of frames.items))) }
+        ≡ Some (model.Want (model.InItem (model.head_of (tree_of operand)) grammar.Nothing
+        ∷ frames_of frames.items))) }
 {
     let head = head_of(alloc, operand);
     let begun = Frame::InItem {
@@ -54,7 +52,8 @@ pub fn in_frame(
     frames: Vec<Frame>,
     operand: Expr,
 ) -> Result<Option<State>, AllocError>
-    ensures { IfOk result (λ next. option_map state_of next ≡ end_step end (frame_of frame ∷ frames_of frames.items, tree_of operand)) }
+    ensures { IfOk result (λ next. option_map state_of next
+        ≡ end_step end (frame_of frame ∷ frames_of frames.items, tree_of operand)) }
 {
     match made_at(alloc, end, frame, operand)? {
         Some(made) => settle(made, frames),
@@ -69,7 +68,8 @@ fn ended(
     frames: Vec<Frame>,
     operand: Expr,
 ) -> Result<Option<State>, AllocError>
-    ensures { IfOk result (λ next. option_map state_of next ≡ end_step end (model.close 0 (frames_of frames.items) (tree_of operand))) }
+    ensures { IfOk result (λ next. option_map state_of next
+        ≡ end_step end (model.close 0 (frames_of frames.items) (tree_of operand))) }
 {
     let (mut frames, operand) = close(alloc, frames, operand, 0)?;
     match frames.pop() {

@@ -6,30 +6,21 @@
 //!
 //! It stands on `dt_tokens` for the tokens, on `dt_grammar` for the lemmas of the grammar, and on
 //! `dt_misplaced` for the assignments in wrong places. The grammar takes the tokens one by one,
-//! with a stack of what has been begun, and never goes back. Six tokens end all operators of what
-//! has come, `End`: `endings` says what each makes of the innermost frame, and `empties` where
-//! nothing has come in it. A frame, an expression or a state that is let go is dropped by a call,
-//! `drop(..)`: else the proof has a case for each of its forms, and for two of them one for each
-//! pair.
+//! with a stack of what has been begun (`script_frames`), and never goes back: `script_operators`
+//! says what an operator or a name makes of it, and `script_brackets` what a token does that ends
+//! all operators of what has come. A frame, an expression or a state that is let go is dropped by a
+//! call, `drop(..)`: else the proof has a case for each of its forms, and for two of them one for
+//! each pair.
 //!
 //! It promises that a script is given exactly where the bytes spell it, and the fault exactly where
 //! it is the first. Time is linear in the bytes and the stack grows with the nesting alone, which
 //! no clause says and `reading_cases` tries.
 #![tactic(auto)]
 
-mod brackets;
 mod bytes;
-mod empties;
-mod endings;
-mod formulas;
-mod frames;
 mod having;
-mod levels;
-mod naming;
-mod operators;
 mod place;
 mod reading;
-mod stack;
 mod step;
 mod symbol;
 mod wanting;

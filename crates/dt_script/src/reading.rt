@@ -1,13 +1,13 @@
 ghost use Rattle.std.specs.Prelude.{◌≡◌, IfOk};
 ghost use Rattle.run_model.specs.TokenView.{plain_tokens};
 ghost use Rattle.dt_grammar.specs.Machine as model;
-ghost use Rattle.dt_script.specs.Frames.{state_of};
+ghost use Rattle.script_frames.specs.Frames.{state_of};
 ghost use Rattle.dt_script.specs.Judges.{Judges};
 
-use crate::frames::{Frame, State};
 use crate::step::{finish, step};
 use crate::symbol::symbol;
 use dt_tree::{Placed, Stmt};
+use script_frames::{Frame, State};
 use sqlite_items::Items;
 use std::alloc::{AllocError, Global};
 

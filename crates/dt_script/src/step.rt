@@ -2,23 +2,24 @@ ghost use Rattle.std.specs.Prelude.{◌≡◌, ◌∷◌, ◌++◌, [], IfOk, So
 ghost use Rattle.run_model.specs.TreeView.{tree_of, args_of, stmts_of};
 ghost use Rattle.run_model.specs.GrammarTrees as grammar;
 ghost use Rattle.dt_grammar.specs.Machine as model;
-ghost use Rattle.dt_script.specs.Ends.{end_step};
-ghost use Rattle.dt_script.specs.Frames.{head_tree, filled_of, frames_of, state_of, symbol_of};
+ghost use Rattle.script_frames.specs.Ends.{end_step};
+ghost use Rattle.script_frames.specs.Frames.{head_tree, filled_of, frames_of, state_of, symbol_of};
 
-use crate::endings::last_stmt;
-use crate::frames::{End, Filled, Formula, Frame, Head, State, Symbol};
 use crate::having::{have, in_frame};
-use crate::operators::close;
-use crate::stack::enter;
 use crate::wanting::want;
 use dt_base::{Op, Text};
 use dt_tree::{BinOp, Expr, Stmt};
+use script_brackets::last_stmt;
+use script_frames::{End, Filled, Formula, Frame, Head, State, Symbol};
+use script_operators::{close, enter};
 use sqlite_items::Items;
 use std::alloc::{AllocError, Global};
 
 /// A token where the name of an item is to come.
 fn need_name(head: Head, filled: Filled, frames: Vec<Frame>, symbol: Symbol) -> Option<State>
-    ensures { option_map state_of result ≡ model.step (model.NeedName (head_tree head) (filled_of filled) (frames_of frames.items)) (symbol_of symbol) }
+    ensures { option_map state_of result
+        ≡ model.step (model.NeedName (head_tree head) (filled_of filled) (frames_of frames.items))
+        (symbol_of symbol) }
 {
     match symbol {
         Symbol::Name(name) => Some(State::NeedIs {
@@ -43,7 +44,8 @@ fn need_is(
     symbol: Symbol,
 ) -> Result<Option<State>, AllocError>
     ensures { IfOk result (λ next. option_map state_of next
-        ≡ model.step (model.NeedIs (head_tree head) (filled_of filled) name (frames_of frames.items)) (symbol_of symbol)) }
+        ≡ model.step (model.NeedIs (head_tree head) (filled_of filled) name
+        (frames_of frames.items)) (symbol_of symbol)) }
 {
     match symbol {
         Symbol::Is => enter(Frame::InNamed { head, filled, name }, frames),
@@ -61,7 +63,8 @@ fn one_more(
     frames: Vec<Frame>,
 ) -> Result<Option<State>, AllocError>
     ensures { IfOk result (λ next. option_map state_of next
-        ≡ Some (model.HaveWords formula.call (args_of formula.args) formula.target formula.left (formula.right ++ name ∷ []) (frames_of frames.items))) }
+        ≡ Some (model.HaveWords formula.call (args_of formula.args) formula.target formula.left
+        (formula.right ++ name ∷ []) (frames_of frames.items))) }
 {
     formula.right.push(name)?;
     Ok(Some(State::HaveWords { formula, frames }))
@@ -74,7 +77,8 @@ fn need_word(
     symbol: Symbol,
 ) -> Result<Option<State>, AllocError>
     ensures { IfOk result (λ next. option_map state_of next
-        ≡ model.step (model.NeedWord formula.call (args_of formula.args) formula.target formula.left formula.right (frames_of frames.items)) (symbol_of symbol)) }
+        ≡ model.step (model.NeedWord formula.call (args_of formula.args) formula.target formula.left
+        formula.right (frames_of frames.items)) (symbol_of symbol)) }
 {
     match symbol {
         Symbol::Name(name) => one_more(formula, name, frames),
@@ -94,7 +98,11 @@ fn ended(
     frames: Vec<Frame>,
 ) -> Result<Option<State>, AllocError>
     ensures { IfOk result (λ next. option_map state_of next
-        ≡ end_step end (model.InCall formula.call (args_of formula.args) formula.target ∷ frames_of frames.items, grammar.Formula formula.left formula.right)) }
+        ≡ end_step end (
+          model.InCall formula.call (args_of formula.args) formula.target
+              ∷ frames_of frames.items,
+          grammar.Formula formula.left formula.right,
+        )) }
 {
     let Formula {
         call,
@@ -119,7 +127,8 @@ fn have_words(
     symbol: Symbol,
 ) -> Result<Option<State>, AllocError>
     ensures { IfOk result (λ next. option_map state_of next
-        ≡ model.step (model.HaveWords formula.call (args_of formula.args) formula.target formula.left formula.right (frames_of frames.items)) (symbol_of symbol)) }
+        ≡ model.step (model.HaveWords formula.call (args_of formula.args) formula.target
+        formula.left formula.right (frames_of frames.items)) (symbol_of symbol)) }
 {
     match symbol {
         Symbol::Operator(BinOp::Arith(Op::Add)) => Ok(Some(State::NeedWord { formula, frames })),
@@ -134,7 +143,8 @@ fn have_words(
 
 /// What one more token makes of the state, or none where no script goes on so.
 pub fn step(alloc: Global, state: State, symbol: Symbol) -> Result<Option<State>, AllocError>
-    ensures { IfOk result (λ next. option_map state_of next ≡ model.step (state_of state) (symbol_of symbol)) }
+    ensures { IfOk result (λ next. option_map state_of next
+        ≡ model.step (state_of state) (symbol_of symbol)) }
 {
     match state {
         State::Want { frames } => want(alloc, frames, symbol),
@@ -156,7 +166,7 @@ pub fn step(alloc: Global, state: State, symbol: Symbol) -> Result<Option<State>
 }
 
 /// The statements, where the script may end where nothing has come.
-#[tactic(auto, using(crate::proofs::FrameViews::frames))]
+#[tactic(auto, using(script_frames::proofs::FrameViews::frames))]
 fn finish_none(mut frames: Vec<Frame>) -> Option<Items<Stmt>>
     ensures { option_map stmts_of result ≡ model.finish (model.Want (frames_of frames.items)) }
 {
@@ -178,7 +188,8 @@ fn finish_stmt(
     frames: Vec<Frame>,
     operand: Expr,
 ) -> Result<Option<Items<Stmt>>, AllocError>
-    ensures { IfOk result (λ done. option_map stmts_of done ≡ model.finish (model.Have (frames_of frames.items) (tree_of operand))) }
+    ensures { IfOk result (λ done. option_map stmts_of done
+        ≡ model.finish (model.Have (frames_of frames.items) (tree_of operand))) }
 {
     let (mut frames, operand) = close(alloc, frames, operand, 0)?;
     match frames.pop() {

@@ -1,11 +1,11 @@
 ghost use Rattle.std.specs.Prelude.{◌≡◌, IfOk};
 ghost use Rattle.run_model.specs.TokenView as view;
 ghost use Rattle.run_model.specs.GrammarTrees as grammar;
-ghost use Rattle.dt_script.specs.Frames.{symbol_of};
+ghost use Rattle.script_frames.specs.Frames.{symbol_of};
 
-use crate::frames::{End, Symbol};
 use dt_base::{Cell, ColType, Op};
 use dt_tree::{BinOp, Literal, Sign, Token};
+use script_frames::{End, Symbol};
 use std::alloc::AllocError;
 
 /// What a literal word is to the grammar.

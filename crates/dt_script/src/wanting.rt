@@ -2,15 +2,14 @@ ghost use Rattle.std.specs.Prelude.{◌≡◌, ◌∷◌, IfOk, None, option_map
 ghost use Rattle.run_model.specs.GrammarTrees.{Operator};
 ghost use Rattle.run_model.specs.TreeView.{tree_of};
 ghost use Rattle.dt_grammar.specs.Machine as model;
-ghost use Rattle.dt_script.specs.Ends.{none_step};
-ghost use Rattle.dt_script.specs.Frames.{frame_of, frames_of, state_of, symbol_of};
+ghost use Rattle.script_frames.specs.Ends.{none_step};
+ghost use Rattle.script_frames.specs.Frames.{frame_of, frames_of, state_of, symbol_of};
 
-use crate::empties::made_none;
-use crate::frames::{End, Frame, Prefix, State, Symbol};
-use crate::operators::front;
-use crate::stack::{enter, settle};
 use dt_base::Op;
 use dt_tree::{BinOp, Expr};
+use script_brackets::made_none;
+use script_frames::{End, Frame, Prefix, State, Symbol};
+use script_operators::{enter, front, settle};
 use std::alloc::{AllocError, Global};
 
 /// An expression of one token has come.
@@ -22,7 +21,8 @@ fn came(frames: Vec<Frame>, operand: Expr) -> State
 
 /// A two-sided operator where an expression is to come: only `-` has a one-sided sense.
 fn operator(op: BinOp, frames: Vec<Frame>) -> Result<Option<State>, AllocError>
-    ensures { IfOk result (λ next. option_map state_of next ≡ model.step (model.Want (frames_of frames.items)) (Operator op)) }
+    ensures { IfOk result (λ next. option_map state_of next
+        ≡ model.step (model.Want (frames_of frames.items)) (Operator op)) }
 {
     match op {
         BinOp::Arith(Op::Sub) => front(Prefix::Negate, frames),
@@ -32,7 +32,8 @@ fn operator(op: BinOp, frames: Vec<Frame>) -> Result<Option<State>, AllocError>
 
 /// A token that ends all operators, where nothing has come in the innermost frame.
 fn ended(alloc: Global, end: End, mut frames: Vec<Frame>) -> Result<Option<State>, AllocError>
-    ensures { IfOk result (λ next. option_map state_of next ≡ none_step end (frames_of frames.items)) }
+    ensures { IfOk result (λ next. option_map state_of next
+        ≡ none_step end (frames_of frames.items)) }
 {
     match frames.pop() {
         Some(frame) => empty_frame(alloc, end, frame, frames),
@@ -47,7 +48,8 @@ fn empty_frame(
     frame: Frame,
     frames: Vec<Frame>,
 ) -> Result<Option<State>, AllocError>
-    ensures { IfOk result (λ next. option_map state_of next ≡ none_step end (frame_of frame ∷ frames_of frames.items)) }
+    ensures { IfOk result (λ next. option_map state_of next
+        ≡ none_step end (frame_of frame ∷ frames_of frames.items)) }
 {
     match made_none(alloc, end, frame)? {
         Some(made) => settle(made, frames),
@@ -64,7 +66,8 @@ fn refuse(_frames: Vec<Frame>) -> Option<State>
 
 /// A token where an expression is to come.
 pub fn want(alloc: Global, frames: Vec<Frame>, symbol: Symbol) -> Result<Option<State>, AllocError>
-    ensures { IfOk result (λ next. option_map state_of next ≡ model.step (model.Want (frames_of frames.items)) (symbol_of symbol)) }
+    ensures { IfOk result (λ next. option_map state_of next
+        ≡ model.step (model.Want (frames_of frames.items)) (symbol_of symbol)) }
 {
     match symbol {
         Symbol::Literal { cell, kind } => Ok(Some(came(frames, Expr::Lit { cell, kind }))),

@@ -1,3 +1,4 @@
+pub mod Changes
 pub mod Counts
 pub mod Ends
 pub mod Execs
@@ -5,3 +6,4 @@ pub mod FaultLines
 pub mod Lines
 pub mod Refusals
 pub mod Scripts
+pub mod Sends

@@ -19,7 +19,8 @@ use Rattle.dt_session.specs.declared.fail.RunFail.{RunFail}
 pub warned_none : (b : Option (List ℕ)) → Warned b b
 warned_none b = record { sets = []; lines = sym (appended_nothing b) }
 
-lines_more : (b : Option (List ℕ)) (ws : List (ℕ × Warns)) (w : ℕ × Warns) → appended (appended b (warned_lines ws)) (printed_warns w.0 w.1) ≡ appended b (warned_lines (ws ++ w ∷ []))
+lines_more : (b : Option (List ℕ)) (ws : List (ℕ × Warns)) (w : ℕ × Warns)
+    → appended (appended b (warned_lines ws)) (printed_warns w.0 w.1) ≡ appended b (warned_lines (ws ++ w ∷ []))
 lines_more None ws w = refl
 lines_more (Some old) ws w = ap Some (flat_map_more (λ (x : ℕ × Warns). printed_warns x.0 x.1) old ws w)
 
@@ -31,18 +32,23 @@ warned_next line b v n h k = record {
 }
 
 -- nothing but the line of a fault was put
-pub fault_alone : (line : ℕ) (f : Fault) (b v : Option (List ℕ)) → v ≡ appended b (printed_fault line f) → EndsInFault b v line f
-fault_alone line f b v h = record { sets = []; lines = h ∙ ap (λ a. appended a (printed_fault line f)) (sym (appended_nothing b)) }
+pub fault_alone : (line : ℕ) (f : Fault) (b v : Option (List ℕ)) → v ≡ appended b (printed_fault line f)
+    → EndsInFault b v line f
+fault_alone line f b v h =
+    record { sets = []; lines = h ∙ ap (λ a. appended a (printed_fault line f)) (sym (appended_nothing b)) }
 
 -- the next statement was refused
-pub fault_next : (line : ℕ) (b v n : Option (List ℕ)) (e : ExecFail) → Warned b v → FaultPut line v n e → TellsFault line b n e
-fault_next line b v n (Stop f) h k = record { sets = h.sets; lines = k ∙ ap (λ a. appended a (printed_fault line f)) h.lines }
+pub fault_next : (line : ℕ) (b v n : Option (List ℕ)) (e : ExecFail) → Warned b v → FaultPut line v n e
+    → TellsFault line b n e
+fault_next line b v n (Stop f) h k =
+    record { sets = h.sets; lines = k ∙ ap (λ a. appended a (printed_fault line f)) h.lines }
 fault_next line b v n ReadFault h k = tt
 fault_next line b v n WriteFault h k = tt
 fault_next line b v n (NoMemory x) h k = tt
 
 -- the line of the fault was put, behind what stayed
-pub stopped_put : (line : ℕ) (f : Fault) (b v n : Option (List ℕ)) (e : ExecFail) → v ≡ b → IsStopped line f v n e → FaultPut line b n e
+pub stopped_put : (line : ℕ) (f : Fault) (b v n : Option (List ℕ)) (e : ExecFail) → v ≡ b → IsStopped line f v n e
+    → FaultPut line b n e
 stopped_put line f b v n (Stop g) same h = h.1 ∙ (λ i. appended (same i) (printed_fault line (sym h.0 i)))
 stopped_put line f b v n ReadFault same h = tt
 stopped_put line f b v n WriteFault same h = tt
@@ -56,7 +62,9 @@ no_fault line b v WriteFault h = tt
 no_fault line b v (NoMemory x) h = tt
 
 -- a script whose reading is refused tells its fault, and no warning
-pub refusal_tells : (e : ParseFail) (b v : Option (List ℕ)) (r : RunFail) → RefusalEnd e b v r → TellsFault r.line b v r.cause
+pub refusal_tells : (e : ParseFail) (b v : Option (List ℕ)) (r : RunFail) → RefusalEnd e b v r
+    → TellsFault r.line b v r.cause
 refusal_tells e b v r (inl (f, is, h)) =
-    rw (h.0) (fault_next (line_of f) b b v r.cause (warned_none b) (stopped_put (line_of f) (script_fault f) b b v r.cause refl h.2))
+    rw (h.0) (fault_next (line_of f) b b v r.cause (warned_none b)
+    (stopped_put (line_of f) (script_fault f) b b v r.cause refl h.2))
 refusal_tells e b v r (inr h) = no_fault r.line b v r.cause h.0

@@ -8,25 +8,30 @@
 --   StmtsEnd xs s w now v r   how statements ended early
 --   Blames held m l e         where files tell nothing, e blames a file only where m, or l, holds
 --   IsOwn e                   a fault that blames no file that is read
---   AnyRose a b c             one of three counts rose
 --   ReadsAs bytes s w P       the bytes are evaluated to an end of which P holds
---   prepared_effect p         the effect that was prepared, plainly
+--   CutBefore xs j l s w now v  the run was cut off before statement j + 1, which stands on line l
+--   IsCutBefore bytes ..      so it was in the script of these bytes
+--   prepared_effect h p       the effect that was prepared, plainly, over the names and tables h
 --   sent e lines              an effect's text and file, and these lines
 --   EndsAs bytes s w now v r  how the script of these bytes ended early
-use Rattle.std.specs.Prelude.{◌≡◌, ◌⊎◌, ℕ, List, Option, IsNone, false, Some, Ok, Err, option_map}
+use Rattle.std.specs.Prelude.{◌≡◌, ◌⊎◌, ℕ, zero, suc, List, [], ◌∷◌, Option, IsNone, false, Some, Ok, Err, option_map}
 use Rattle.eval_fail.specs.Answers.{is_of_file}
 use Rattle.dt_base.specs.declared.fault.Fault.{Fault}
-use Rattle.dt_model.specs.State.{State}
+use Rattle.dt_tree.specs.declared.tree.Script.{Script}
 use Rattle.dt_tree.specs.declared.tree.Stmt.{Stmt}
 use Rattle.dt_world.specs.Told.{FileMap, appended, AppendedPart}
-use Rattle.stmt_value.specs.Answers.{cause_of}
+use Rattle.file_value.specs.Answers.{cause_of}
 use Rattle.run_model.specs.Messages.{printed_fault}
-use Rattle.session_model.specs.Evaluation.{Step, End, Evaluates, IsCutOff, plain, Cut, sends}
-use Rattle.session_model.specs.World.{World, Pieces, Parted, after, pieces_of, fault_pieces}
+use Rattle.run_model.specs.Reading.{IsReadAs}
+use Rattle.session_model.specs.Evaluation.{Step, End, Evaluates, IsCutOff, plain, Cut, goes_on_to, sends}
+use Rattle.session_model.specs.Session.{SessionState}
+use Rattle.session_model.specs.Statement.{step}
+use Rattle.session_model.specs.World.{World, Pieces, Parted, after, pieces_of, fault_pieces, look}
 use Rattle.session_model.specs.Effect as model
-use Rattle.stmt_effect.specs.Effects.{plain_file, plain_effect}
+use Rattle.stmt_change.specs.Effects.{plain_file, plain_effect}
+use Rattle.table_heap.specs.Seen.{HeapSeen}
 use Rattle.dt_session.specs.declared.session.Prepared.{Prepared}
-use Rattle.stmt_effect.specs.declared.effect.Effect.{Effect}
+use Rattle.stmt_change.specs.declared.effect.Effect.{Effect}
 use Rattle.dt_session.specs.declared.fail.ExecFail.{ExecFail}
 use Rattle.dt_session.specs.declared.fail.ExecFail.TheVariants.{Stop, ReadFault, WriteFault, NoMemory}
 use Rattle.dt_session.specs.declared.fail.RunFail.{RunFail}
@@ -59,29 +64,38 @@ CountsOwn reads writes ReadFault = writes
 CountsOwn reads writes WriteFault = reads
 CountsOwn reads writes (NoMemory e) = reads × writes
 
--- one of three counts rose
-abbrev pub AnyRose : Type 0 → Type 0 → Type 0 → Type 0
-AnyRose a b c = a ⊎ (b ⊎ c)
-
 -- the bytes are evaluated to an end of which this holds
-abbrev pub ReadsAs : List ℕ → State → World → (End → Type 0) → Type 0
+abbrev pub ReadsAs : List ℕ → SessionState → World → (End → Type 0) → Type 0
 ReadsAs bytes s w P = (e : End) × Evaluates bytes s w e × P e
 
 -- the end with a fault, which leaves this state and world
-abbrev pub stopped_at : State → World → RunFail → (ExecFail → End → Type 0)
+abbrev pub stopped_at : SessionState → World → RunFail → (ExecFail → End → Type 0)
 stopped_at now v r (Stop f) e = e ≡ record { state = now; world = v; done = r.done; fault = Some (r.line, f) }
 stopped_at now v r _ e = ⊥
 
--- A fault is the one of the plain evaluation, whose end this is. After a failed read, put or write,
--- or want of memory, the run was cut off; or memory was wanting before anything was read.
-abbrev pub EndCause : List ℕ → State → World → State → World → RunFail → ExecFail → Type 0
+-- The state and the world are those after j statements; the next one stands on this line, and has put
+-- nothing.
+abbrev pub CutBefore : List Stmt → ℕ → ℕ → SessionState → World → SessionState → World → Type 0
+CutBefore [] j line s w now v = ⊥
+CutBefore (x ∷ xs) zero line s w now v = (line ≡ x.line) × (now ≡ s) × (v ≡ w)
+CutBefore (x ∷ xs) (suc j) line s w now v =
+    goes_on_to x.line (step (look w.files) s x) (λ t u. CutBefore xs j line t u now v) s w
+
+-- The bytes are a script, of which j statements were done, and of the next one nothing.
+abbrev pub IsCutBefore : List ℕ → SessionState → World → ℕ → ℕ → SessionState → World → Type 0
+IsCutBefore bytes s w j line now v = (t : Script) × IsReadAs bytes t × CutBefore t.stmts j line s w now v
+
+-- A fault is the one of the plain evaluation, whose end this is. After a failed read the run was cut off
+-- before a statement; after a failed put or write, or want of memory, in one; or memory was wanting before
+-- anything was read.
+abbrev pub EndCause : List ℕ → SessionState → World → SessionState → World → RunFail → ExecFail → Type 0
 EndCause bytes s w now v r (Stop f) = ReadsAs bytes s w (stopped_at now v r (Stop f))
-EndCause bytes s w now v r ReadFault = IsCutOff bytes s w r.done r.line now v
+EndCause bytes s w now v r ReadFault = IsCutBefore bytes s w r.done r.line now v
 EndCause bytes s w now v r WriteFault = IsCutOff bytes s w r.done r.line now v
 EndCause bytes s w now v r (NoMemory e) =
     IsCutOff bytes s w r.done r.line now v ⊎ ((r.done ≡ 0) × (r.line ≡ 0) × (now ≡ s) × (v ≡ w))
 
-abbrev pub EndsAs : List ℕ → State → World → State → World → RunFail → Type 0
+abbrev pub EndsAs : List ℕ → SessionState → World → SessionState → World → RunFail → Type 0
 EndsAs bytes s w now v r = EndCause bytes s w now v r r.cause
 
 -- an effect's text and file, and these lines
@@ -89,8 +103,8 @@ abbrev pub sent : Effect → List ℕ → Pieces
 sent e lines = record { text = e.text.items; file = option_map plain_file e.file; lines = lines }
 
 -- the effect that was prepared, plainly
-abbrev pub prepared_effect : Prepared → model.Effect
-prepared_effect p = plain_effect p.effect
+abbrev pub prepared_effect : HeapSeen → Prepared → model.Effect
+prepared_effect h p = plain_effect h p.effect
 
 -- The line of the fault was put. Where that put failed a first part of it was, and where memory was
 -- wanting nothing.
@@ -100,22 +114,23 @@ IsStopped line f e v ReadFault = ⊥
 IsStopped line f e v WriteFault = AppendedPart e v (printed_fault line f)
 IsStopped line f e v (NoMemory x) = v ≡ e
 
--- A fault is the one of the definition, and its line is put. Else a first part stands of what the
--- statement sends, its fault's line included.
+-- A fault is the one of the definition, and its line is put. After a failed read nothing is. Else a
+-- first part stands of what the statement sends, its fault's line included.
 abbrev pub LineCause : ℕ → Step → World → World → ExecFail → Type 0
 LineCause line o w v (Stop f) = (o ≡ Err f) × (v ≡ after w (fault_pieces line f))
-LineCause line o w v ReadFault = Parted w (sends line o) v
+LineCause line o w v ReadFault = v ≡ w
 LineCause line o w v WriteFault = Parted w (sends line o) v
 LineCause line o w v (NoMemory e) = Parted w (sends line o) v
 
 -- statements ended early: with the fault of the plain evaluation, or cut off
-abbrev pub StmtsCause : List Stmt → State → World → State → World → RunFail → ExecFail → Type 0
-StmtsCause xs s w now v r (Stop f) = plain xs s w 0 ≡ record { state = now; world = v; done = r.done; fault = Some (r.line, f) }
-StmtsCause xs s w now v r ReadFault = Cut xs r.done r.line s w now v
+abbrev pub StmtsCause : List Stmt → SessionState → World → SessionState → World → RunFail → ExecFail → Type 0
+StmtsCause xs s w now v r (Stop f) =
+    plain xs s w 0 ≡ record { state = now; world = v; done = r.done; fault = Some (r.line, f) }
+StmtsCause xs s w now v r ReadFault = CutBefore xs r.done r.line s w now v
 StmtsCause xs s w now v r WriteFault = Cut xs r.done r.line s w now v
 StmtsCause xs s w now v r (NoMemory e) = Cut xs r.done r.line s w now v
 
-abbrev pub StmtsEnd : List Stmt → State → World → State → World → RunFail → Type 0
+abbrev pub StmtsEnd : List Stmt → SessionState → World → SessionState → World → RunFail → Type 0
 StmtsEnd xs s w now v r = StmtsCause xs s w now v r r.cause
 
 -- Where files tell nothing, a file is told as absent, or as too long, only where that was so.

@@ -3,8 +3,8 @@
 --   of_write e     why its text was not put
 use Rattle.dt_world.specs.declared.traits.WriteFail.{WriteFail}
 use Rattle.dt_world.specs.declared.traits.WriteFail.TheVariants as write
-use Rattle.stmt_value.specs.declared.fail.ValueFail.{ValueFail}
-use Rattle.stmt_value.specs.declared.fail.ValueFail.TheVariants as value
+use Rattle.file_value.specs.declared.fail.ValueFail.{ValueFail}
+use Rattle.file_value.specs.declared.fail.ValueFail.TheVariants as value
 use Rattle.dt_session.specs.declared.fail.ExecFail.{ExecFail}
 use Rattle.dt_session.specs.declared.fail.ExecFail.TheVariants.{Stop, ReadFault, WriteFault, NoMemory}
 

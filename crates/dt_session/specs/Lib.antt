@@ -1,5 +1,9 @@
 pub mod Answers
+pub mod Changes
+pub mod Execs
 pub mod Fails
 pub mod Lines
+pub mod Outside
+pub mod Puts
 pub mod Refusals
 pub mod Session

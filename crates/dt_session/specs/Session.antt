@@ -1,16 +1,16 @@
 -- What contracts see of a session.
 --   SessionSeen     names and tables, and the two options
---   both_on         both options, as a session begins
+--   heaped h o      the state of names and tables, with these options
 --   state_of s      the state that a session stands for
 --   IsAlike s       the session is alike to its state
-use Rattle.std.specs.Prelude.{◌≡◌, true, refl}
+use Rattle.std.specs.Prelude.{◌≡◌, refl}
 use Rattle.std.specs.Coded.{Coded, code_by, coded×}
-use Rattle.dt_model.specs.State.{State}
+use Rattle.func_table.specs.declared.options.Options.{Options}
+use Rattle.func_table.specs.contracts.options.Options as options
+use Rattle.session_model.specs.Session.{SessionState}
 use Rattle.table_heap.specs.Alike.{Alike}
 use Rattle.table_heap.specs.Seen.{HeapSeen, heap_code}
 use Rattle.table_heap.specs.State as heap
-use Rattle.dt_query.specs.declared.answer.Options.{Options}
-use Rattle.dt_query.specs.contracts.answer.Options as options
 
 -- names and tables, and the two options
 pub record SessionSeen : Type 0 where
@@ -26,15 +26,15 @@ session_code =
     (λ p. record { heap = p.0; options = p.1 })
     (λ _. refl)
 
--- both options, as a session begins
-abbrev pub both_on : Options
-both_on = record { auto_index = true; use_index = true }
+-- the state of names and tables, with the options
+abbrev pub heaped : HeapSeen → Options → SessionState
+heaped h options = record { state = heap.state_of h; options = options }
 
--- the state that a session stands for
-abbrev pub state_of : SessionSeen → State
-state_of s = heap.state_of s.heap
+-- the state that a session stands for: that of its names and tables, and its options
+abbrev pub state_of : SessionSeen → SessionState
+state_of s = heaped s.heap s.options
 
--- Names and tables are alike on both sides. No statement changes an option yet, so both are on.
+-- Names and tables are alike on both sides, and the options are the same.
 pub record IsAlike (s : SessionSeen) : Type 0 where
-  pub heap : Alike s.heap (state_of s)
-  pub options : s.options ≡ both_on
+  pub heap : Alike s.heap (state_of s).state
+  pub options : s.options ≡ (state_of s).options

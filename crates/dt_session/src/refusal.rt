@@ -1,11 +1,12 @@
 //! The one line that tells a fault, and how the refusal of a script's reading is told.
-ghost use Rattle.std.specs.Prelude.{◌≡◌, ◌≢◌, ◌≤◌, IfOk, OnOk, OnErr, false, IsErrOf, alloc_error, ⊤};
+ghost use Rattle.std.specs.Prelude.{◌≡◌, ◌≢◌, ◌≤◌, IfOk, false, ⊤};
 ghost use Rattle.eval_fail.specs.Answers.{is_of_file};
 ghost use Rattle.dt_world.specs.Causes.{Rose};
-ghost use Rattle.dt_world.specs.Told.{appended, AppendedPart};
 ghost use Rattle.run_model.specs.Messages.{printed_fault};
 ghost use Rattle.vector_model.specs.Faults.{number_fault};
 ghost use Rattle.dt_session.specs.Answers.{CountsOwn, IsOwn, IsStopped};
+ghost use Rattle.dt_session.specs.Outside.{sink_seen};
+ghost use Rattle.dt_session.specs.Puts.{IsPut};
 ghost use Rattle.dt_session.specs.Refusals.{IsRefusalOf, RefusalEnd};
 
 use crate::fail::{ExecFail, RunFail};
@@ -18,14 +19,8 @@ use std::alloc::{AllocError, Global};
 
 /// Puts the line of a fault.
 fn put_fault<E: Sink>(alloc: Global, line: u32, fault: &Fault, err: &mut E) -> Result<(), WriteFail>
-    ensures ok { OnOk result (E.bytes err.new ≡ appended (E.bytes err.old) (printed_fault line fault.now)) }
-    ensures part { OnErr result (AppendedPart (E.bytes err.old) (E.bytes err.new) (printed_fault line fault.now)) }
-    ensures failed { IsErrOf result WriteFail.Failed → Rose (E.faults err.old) (E.faults err.new) }
-    ensures no_memory { IsErrOf result (WriteFail.NoMemory alloc_error) → E.bytes err.new ≡ E.bytes err.old }
-    ensures ok_quiet { OnOk result (E.faults err.new ≡ E.faults err.old) }
-    ensures no_memory_quiet { IsErrOf result (WriteFail.NoMemory alloc_error) →
-        E.faults err.new ≡ E.faults err.old }
-    ensures faults { E.faults err.old ≤ E.faults err.new }
+    ensures { IsPut (sink_seen E.bytes E.faults err.old) (sink_seen E.bytes E.faults err.new)
+        (printed_fault line fault.now) result }
 {
     match fault_line(alloc, line, fault) {
         Ok(text) => put_piece(err, &text),
@@ -95,7 +90,8 @@ pub fn tell_refusal<E: Sink>(alloc: Global, fail: ParseFail, err: &mut E) -> Run
     ensures end { RefusalEnd fail (E.bytes err.old) (E.bytes err.new) result }
     ensures own { IsOwn result.cause }
     ensures read { result.cause ≢ ExecFail.ReadFault }
-    ensures write { result.cause ≡ ExecFail.WriteFault → Rose (E.faults err.old) (E.faults err.new) }
+    ensures write { result.cause ≡ ExecFail.WriteFault →
+        Rose (E.faults err.old) (E.faults err.new) }
     ensures quiet { CountsOwn ⊤ (E.faults err.new ≡ E.faults err.old) result.cause }
     ensures faults { E.faults err.old ≤ E.faults err.new }
 {

@@ -1,36 +1,39 @@
-ghost use Rattle.std.specs.Prelude.{◌≡◌, ◌≤◌, IfOk, IfErr, OnOk, OnErr, IsSome, IsNone, IsErrOf};
-ghost use Rattle.dt_model.specs.State.{empty_state};
-ghost use Rattle.dt_world.specs.Causes.{Rose};
+ghost use Rattle.std.specs.Prelude.{◌≡◌, ◌≤◌, IfOk, OnOk, IsSome};
 ghost use Rattle.run_model.specs.Messages.{printed_warns};
-ghost use Rattle.session_model.specs.Evaluation.{Did};
+ghost use Rattle.session_model.specs.Session.{empty_session};
 ghost use Rattle.session_model.specs.Statement.{step};
-ghost use Rattle.session_model.specs.World.{world, look};
-ghost use Rattle.stmt_effect.specs.Effects.{FitsIn};
-ghost use Rattle.stmt_value.specs.Answers as value;
-ghost use Rattle.stmt_value.specs.Answers.{Gives};
-ghost use Rattle.stmt_value.specs.Reads.{NoReadFailed};
+ghost use Rattle.session_model.specs.World.{look};
+ghost use Rattle.stmt_change.specs.Effects.{plain_change, plain_effect, FitsIn, FitsTableIn};
+ghost use Rattle.table_heap.specs.Changes.{HoldsSame};
+ghost use Rattle.file_value.specs.Answers.{Gives};
+ghost use Rattle.file_value.specs.Reads.{OnlyReads, files_seen};
 ghost use Rattle.table_heap.specs.State as named;
-ghost use Rattle.dt_session.specs.Answers.{Refused, PutsNothing, CountsOwn, AnyRose, Blames, prepared_effect};
-ghost use Rattle.dt_session.specs.Lines.{WarnedAt};
-ghost use Rattle.dt_session.specs.Session.{state_of, both_on, IsAlike};
+ghost use Rattle.dt_session.specs.Answers.{prepared_effect, sent};
+ghost use Rattle.dt_session.specs.Changes.{HasRoomIn};
+ghost use Rattle.dt_session.specs.Execs.{IsExec};
+ghost use Rattle.dt_session.specs.Outside.{outside, sink_seen};
+ghost use Rattle.dt_session.specs.Puts.{IsSent};
+ghost use Rattle.dt_session.specs.Session.{heaped, state_of, IsAlike};
 
 use crate::fail::ExecFail;
 use crate::finish::finish;
 use crate::puts::put_all;
 use dt_base::Steps;
 use dt_print::warn_lines;
-use dt_query::Options;
 use dt_script::Stmt;
-use dt_world::{Files, Sink};
-use std::alloc::Global;
+use dt_world::{Files, Sink, WriteFail};
+use func_table::Options;
+use std::alloc::{AllocError, Global};
 use std::marker::Model;
 use std::sync::ledger::Ledger;
-use stmt_effect::{Effect, compute};
-use stmt_value::ValueFail;
+use stmt_change::{Change, Effect, TableChange};
+use stmt_effect::compute;
+use stmt_value::{Setting, ValueFail};
 use table_heap::Heap;
+use table_heap::laws::same_heaps;
 
-/// Names with their tables and vectors, and the options. Contracts see both; `state_of` reads the
-/// names and tables as a state.
+/// Names with their tables and vectors, and the options. Contracts see both; `state_of` reads them
+/// as a state.
 #[derive(Drop)]
 pub struct Session {
     alloc: Global,
@@ -39,16 +42,13 @@ pub struct Session {
 }
 
 impl Model for Session {
-    ghost use Rattle.std.specs.Prelude.{◌≡◌};
-    ghost use Rattle.dt_session.specs.Session.{SessionSeen, session_code, both_on};
+    ghost use Rattle.dt_session.specs.Session.{SessionSeen, session_code};
 
     ghost Value = { SessionSeen };
 
     ghost coded = { session_code };
 
     ghost view = { λ s. record { heap = s.heap; options = s.options } };
-
-    ghost invariant = { λ s. s.options ≡ both_on };
 }
 
 /// An effect, and the lines of its warnings.
@@ -58,40 +58,110 @@ struct Prepared {
     lines: Vec<u8>,
 }
 
+/// Computes what a statement does.
+fn effect_of<F: Files, L: Ledger>(
+    alloc: Global,
+    stmt: &Stmt,
+    heap: &Heap,
+    options: &Options,
+    files: &mut F,
+    steps: &mut Steps<L>,
+) -> Result<Effect, ValueFail>
+    ensures told { IsSome (F.held files.old) →
+        Gives (plain_effect heap.now)
+        (step (look (F.held files.old)) (heaped heap.now options.now) stmt.now) result }
+    ensures fits { IfOk result (λ e. FitsIn heap.now e.change) }
+    ensures files { OnlyReads (files_seen F.held F.read_faults F.misses F.longs F.write_faults)
+        files.old files.new result }
+{
+    let setting = Setting {
+        heap,
+        options: *options,
+    };
+    compute(alloc, stmt, &setting, files, steps)
+}
+
+/// Takes the memory for the change of a table. Spare room alone is more than it was.
+fn reserve_table(heap: &mut Heap, change: &TableChange) -> Result<(), AllocError>
+    requires { FitsTableIn heap.old change.now }
+    ensures ready { OnOk result (HasRoomIn heap.new change.now) }
+    ensures same { HoldsSame heap.old heap.new }
+    ensures room { heap.new.room ≡ heap.old.room }
+{
+    same_heaps();
+    match change {
+        TableChange::Parts { id, parts } => heap.reserve_change(*id, parts),
+        TableChange::Nothing | TableChange::Rename { .. } => Ok(()),
+    }
+}
+
+/// Takes the memory for a change: for a name and a table more, and for the change of a table.
+fn reserve(heap: &mut Heap, change: &Change) -> Result<(), AllocError>
+    requires { FitsIn heap.old change.now }
+    ensures room { OnOk result (1 ≤ heap.new.room) }
+    ensures fits { FitsIn heap.new change.now }
+    ensures ready { OnOk result (HasRoomIn heap.new change.now.table) }
+    ensures change { plain_change heap.new change.now ≡ plain_change heap.old change.now }
+    ensures same { HoldsSame heap.old heap.new }
+    ensures state { named.state_of heap.new ≡ named.state_of heap.old }
+{
+    same_heaps();
+    heap.reserve()?;
+    reserve_table(heap, &change.table)
+}
+
 /// Computes what a statement does and takes the memory for its change. Nothing is put, written or
-/// changed yet.
+/// changed yet; spare room alone may be more than it was.
 fn prepare<F: Files, L: Ledger>(
     alloc: Global,
     stmt: &Stmt,
     heap: &mut Heap,
+    options: &Options,
     files: &mut F,
     steps: &mut Steps<L>,
 ) -> Result<Prepared, ValueFail>
-    ensures told { IsSome (F.held files.old) → Gives prepared_effect (step (look (F.held files.old)) (named.state_of heap.old) stmt.now) result }
+    ensures told { IsSome (F.held files.old) →
+        Gives (prepared_effect heap.old)
+        (step (look (F.held files.old)) (heaped heap.old options.now) stmt.now) result }
     ensures lines { IfOk result (λ p. p.lines.items ≡ printed_warns stmt.now.line p.effect.warns) }
     ensures room { OnOk result (1 ≤ heap.new.room) }
     ensures fits { IfOk result (λ p. FitsIn heap.new p.effect.change) }
-    ensures same { heap.new.held ≡ heap.old.held }
-    ensures held { F.held files.new ≡ F.held files.old }
-    ensures cause { IfErr result (value.Blames (F.held files.old) (Rose (F.misses files.old) (F.misses files.new)) (Rose (F.longs files.old) (F.longs files.new))) }
-    ensures failed { IsErrOf result ValueFail.ReadFault → Rose (F.read_faults files.old) (F.read_faults files.new) }
-    ensures quiet { NoReadFailed result → F.read_faults files.new ≡ F.read_faults files.old }
-    ensures read_faults { F.read_faults files.old ≤ F.read_faults files.new }
-    ensures misses { F.misses files.old ≤ F.misses files.new }
-    ensures longs { F.longs files.old ≤ F.longs files.new }
-    ensures write_faults { F.write_faults files.new ≡ F.write_faults files.old }
+    ensures ready { IfOk result (λ p. HasRoomIn heap.new p.effect.change.table) }
+    ensures change { IfOk result (λ p.
+        plain_change heap.new p.effect.change ≡ plain_change heap.old p.effect.change) }
+    ensures same { HoldsSame heap.old heap.new }
+    ensures state { heaped heap.new options.now ≡ heaped heap.old options.now }
+    ensures files { OnlyReads (files_seen F.held F.read_faults F.misses F.longs F.write_faults)
+        files.old files.new result }
 {
-    let effect = compute(alloc, stmt, heap, files, steps)?;
+    same_heaps();
+    let effect = effect_of(alloc, stmt, heap, options, files, steps)?;
     let lines = warn_lines(alloc, stmt.line, effect.warns)?;
-    heap.reserve()?;
+    reserve(heap, &effect.change)?;
     Ok(Prepared { effect, lines })
+}
+
+/// Puts the text of what was prepared, writes its file, and puts its lines, each at once.
+fn send<F: Files, O: Sink, E: Sink>(
+    prepared: &Prepared,
+    files: &mut F,
+    out: &mut O,
+    err: &mut E,
+) -> Result<(), WriteFail>
+    ensures { IsSent
+        (outside (files_seen F.held F.read_faults F.misses F.longs F.write_faults files.old)
+        (sink_seen O.bytes O.faults out.old) (sink_seen E.bytes E.faults err.old))
+        (outside (files_seen F.held F.read_faults F.misses F.longs F.write_faults files.new)
+        (sink_seen O.bytes O.faults out.new) (sink_seen E.bytes E.faults err.new))
+        (sent prepared.now.effect prepared.now.lines.items) result }
+{
+    put_all(&prepared.effect, &prepared.lines, files, out, err)
 }
 
 impl Session {
     /// A session without names, with both options on.
     pub fn new(alloc: Global) -> Session
-        ensures state { state_of result ≡ empty_state }
-        ensures options { result.options ≡ both_on }
+        ensures { state_of result ≡ empty_session }
     {
         Session {
             alloc,
@@ -125,10 +195,10 @@ impl Session {
     ///
     /// Its effect is computed; then the memory for its change is taken; then its text is put, its
     /// file is written and its warning lines are put, each at once; then the change is made, which
-    /// cannot fail. After a refusal the session is as it was. After a fault or a failed read nothing
-    /// was put or written; after a failed put or write, or want of memory, what was put is a first
-    /// part of what the statement gives. Of the counts of what failed only the one that is answered
-    /// may have risen, and none where the statement was done.
+    /// cannot fail. After a refusal the session is as it was, but for spare room. After a fault or
+    /// a failed read nothing was put or written; after a failed put or write, or want of memory,
+    /// what was put is a first part of what the statement gives. Of the counts of what failed only
+    /// the one that is answered may have risen, and none where the statement was done.
     pub fn exec<F: Files, O: Sink, E: Sink, L: Ledger>(
         &mut self,
         s: &Stmt,
@@ -137,33 +207,31 @@ impl Session {
         err: &mut E,
         steps: &mut Steps<L>,
     ) -> Result<(), ExecFail>
-        ensures done { IsSome (F.held files.old) → OnOk result (Did s.now.line (step (look (F.held files.old)) (state_of self.old) s.now) (state_of self.old) (state_of self.new) (world (F.held files.old) (O.bytes out.old) (E.bytes err.old)) (world (F.held files.new) (O.bytes out.new) (E.bytes err.new))) }
-        ensures refused { IsSome (F.held files.old) → IfErr result (Refused s.now.line (step (look (F.held files.old)) (state_of self.old) s.now) (world (F.held files.old) (O.bytes out.old) (E.bytes err.old)) (world (F.held files.new) (O.bytes out.new) (E.bytes err.new))) }
-        ensures same { OnErr result (self.new.heap.held ≡ self.old.heap.held) }
-        ensures options { self.new.options ≡ self.old.options }
-        ensures nothing { IfErr result (PutsNothing (world (F.held files.old) (O.bytes out.old) (E.bytes err.old)) (world (F.held files.new) (O.bytes out.new) (E.bytes err.new))) }
-        ensures ok_quiet { OnOk result ((F.read_faults files.new ≡ F.read_faults files.old)
-            × ((O.faults out.new ≡ O.faults out.old) × (E.faults err.new ≡ E.faults err.old) × (F.write_faults files.new ≡ F.write_faults files.old))) }
-        ensures quiet { IfErr result (CountsOwn (F.read_faults files.new ≡ F.read_faults files.old)
-            ((O.faults out.new ≡ O.faults out.old) × (E.faults err.new ≡ E.faults err.old) × (F.write_faults files.new ≡ F.write_faults files.old))) }
-        ensures warned { OnOk result (WarnedAt s.now.line (E.bytes err.old) (E.bytes err.new)) }
-        ensures cause { IfErr result (Blames (F.held files.old) (Rose (F.misses files.old) (F.misses files.new)) (Rose (F.longs files.old) (F.longs files.new))) }
-        ensures read { IsErrOf result ExecFail.ReadFault → Rose (F.read_faults files.old) (F.read_faults files.new) }
-        ensures write { IsErrOf result ExecFail.WriteFault → AnyRose (Rose (O.faults out.old) (O.faults out.new)) (Rose (E.faults err.old) (E.faults err.new)) (Rose (F.write_faults files.old) (F.write_faults files.new)) }
-        ensures told { IsSome (F.held files.old) → IsSome (F.held files.new) }
-        ensures untold { IsNone (F.held files.old) → IsNone (F.held files.new) }
-        ensures counts { (O.faults out.old ≤ O.faults out.new) × (E.faults err.old ≤ E.faults err.new) × (F.write_faults files.old ≤ F.write_faults files.new) }
-        ensures reads { (F.read_faults files.old ≤ F.read_faults files.new) × (F.misses files.old ≤ F.misses files.new) × (F.longs files.old ≤ F.longs files.new) }
+        ensures { IsExec s.now self.old self.new
+            (outside (files_seen F.held F.read_faults F.misses F.longs F.write_faults files.old)
+            (sink_seen O.bytes O.faults out.old) (sink_seen E.bytes E.faults err.old))
+            (outside (files_seen F.held F.read_faults F.misses F.longs F.write_faults files.new)
+            (sink_seen O.bytes O.faults out.new) (sink_seen E.bytes E.faults err.new))
+            result }
     {
-        let Prepared { effect, lines } = prepare(self.alloc, s, &mut self.heap, files, steps)?;
-        put_all(&effect, &lines, files, out, err)?;
-        finish(&mut self.heap, effect.change);
-        Ok(())
+        let prepared = prepare(self.alloc, s, &mut self.heap, &self.options, files, steps)?;
+        match send(&prepared, files, out, err) {
+            Err(fail) => Err(ExecFail::from(fail)),
+            Ok(()) => {
+                finish(
+                    &mut self.heap,
+                    &mut self.options,
+                    prepared.effect.change,
+                    steps,
+                );
+                Ok(())
+            }
+        }
     }
 }
 
-/// A session is alike to its state: the same names, with equal vectors and with tables that read the
-/// same; one Id exactly where the state has one number; as many tables; and equal options.
+/// A session is alike to its state: the same names, with equal vectors and with tables that read
+/// the same; one Id exactly where the state has one number; as many tables; and equal options.
 pub fn alike(session: &Session)
     ensures { IsAlike session.now }
 {

@@ -56,7 +56,11 @@ abbrev lgls : Vector
 lgls = record { kind = ty.Lgl; cells = Lgl true ∷ Lgl false ∷ [] }
 
 abbrev two : FrameSeen
-two = record { columns = record { vector = ints; spare = 0 } ∷ record { vector = lgls; spare = 6 } ∷ []; rows = 2; spare = 2 }
+two = record {
+  columns = record { vector = ints; spare = 0 } ∷ record { vector = lgls; spare = 6 } ∷ [];
+  rows = 2;
+  spare = 2;
+}
 
 duplicate : refusal (codes "a" ∷ codes "a" ∷ []) two ≡ Some (Duplicate 1)
 duplicate = refl
@@ -67,7 +71,8 @@ ab = made (codes "a" ∷ codes "b" ∷ []) two 0
 two_rows : (plain ab).rows ≡ (Int (pos 1) ∷ Lgl true ∷ []) ∷ (Na ∷ Lgl false ∷ []) ∷ []
 two_rows = refl
 
-two_heads : (plain ab).columns ≡ record { name = codes "a"; kind = ty.Int } ∷ record { name = codes "b"; kind = ty.Lgl } ∷ []
+two_heads : (plain ab).columns ≡ record { name = codes "a"; kind = ty.Int } ∷ record
+    { name = codes "b"; kind = ty.Lgl } ∷ []
 two_heads = refl
 
 own_slots : (plain ab).slots ≡ 1026
@@ -76,5 +81,6 @@ own_slots = refl
 key_by_name : (plain (record ab { key = 1 ∷ 0 ∷ [] })).key ≡ codes "b" ∷ codes "a" ∷ []
 key_by_name = refl
 
-turned : gathered ints (Some 1 ∷ None ∷ Some 0 ∷ Some 0 ∷ []) ≡ record { kind = ty.Int; cells = Na ∷ Na ∷ Int (pos 1) ∷ Int (pos 1) ∷ [] }
+turned : gathered ints (Some 1 ∷ None ∷ Some 0 ∷ Some 0 ∷ [])
+    ≡ record { kind = ty.Int; cells = Na ∷ Na ∷ Int (pos 1) ∷ Int (pos 1) ∷ [] }
 turned = refl

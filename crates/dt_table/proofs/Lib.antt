@@ -1,5 +1,6 @@
 pub mod AllParts
 pub mod Changing
+pub mod Counting
 pub mod Applying
 mod Examples
 pub mod InPlace

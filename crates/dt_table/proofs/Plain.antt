@@ -9,13 +9,15 @@ use Rattle.dt_table.specs.Table.{TableSeen, IsTable}
 use Rattle.na_vector.specs.Column.{Seen}
 use Rattle.na_vector.specs.Frame.{vectors_of}
 
-pub heads_named : (names : List (List ℕ)) (vectors : List Vector) → length names ≡ length vectors → map (λ (h : ColumnHead). h.name) (heads_of names vectors) ≡ names
+pub heads_named : (names : List (List ℕ)) (vectors : List Vector) → length names ≡ length vectors
+    → map (λ (h : ColumnHead). h.name) (heads_of names vectors) ≡ names
 heads_named [] [] e = refl
 heads_named [] (v ∷ vectors) e = refl
 heads_named (name ∷ names) [] e = absurd (omega (arith, e))
 heads_named (name ∷ names) (v ∷ vectors) e = ap (λ rest. name ∷ rest) (heads_named names vectors (omega (arith, e)))
 
-pub heads_count : (names : List (List ℕ)) (vectors : List Vector) → length names ≡ length vectors → length (heads_of names vectors) ≡ length names
+pub heads_count : (names : List (List ℕ)) (vectors : List Vector) → length names ≡ length vectors
+    → length (heads_of names vectors) ≡ length names
 heads_count [] [] e = refl
 heads_count [] (v ∷ vectors) e = refl
 heads_count (name ∷ names) [] e = absurd (omega (arith, e))

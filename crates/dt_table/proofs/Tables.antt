@@ -1,5 +1,6 @@
 -- That a new table is one, and a copy.
-use Rattle.std.proofs.Common.{◌≡◌, ◌*◌, ◌≤◌, ◌==◌, ℕ, List, [], length, get_or, All, None, arith, refl, ap, sym, ◌∙◌, ◌<◌, subst}
+use Rattle.std.proofs.Common.{◌≡◌, ◌*◌, ◌≤◌, ◌==◌, ℕ, List, [], length, get_or, All, None, arith, refl, ap, sym, ◌∙◌}
+use Rattle.std.proofs.Common.{◌<◌, subst}
 use Rattle.std.proofs.Math.ListN.{get_or-map}
 use Rattle.std.proofs.lemmas.List.{length-map}
 use Rattle.std.proofs.lemmas.Map.Keys.{IsDistinct-from_apart}
@@ -21,7 +22,10 @@ no_columns width cols e = rw e (record {
 })
 
 -- without a key and indices only the names, the cells and the slots are to be seen to
-pub IsTable-new : (names : List (List ℕ)) (f : FrameSeen) (key : List ℕ) (indices : List IndexSeen) (slots spare : ℕ) → IsFrame f.columns f.rows → length names ≡ length f.columns → All IsFilled names → first_repeated names ≡ None → f.rows * length f.columns ≤ 67108864 → length f.columns ≤ slots → key ≡ [] → indices ≡ [] → IsTable (record { names = names; frame = f; key = key; indices = indices; slots = slots; spare = spare })
+pub IsTable-new : (names : List (List ℕ)) (f : FrameSeen) (key : List ℕ) (indices : List IndexSeen) (slots spare : ℕ)
+    → IsFrame f.columns f.rows → length names ≡ length f.columns → All IsFilled names → first_repeated names ≡ None
+    → f.rows * length f.columns ≤ 67108864 → length f.columns ≤ slots → key ≡ [] → indices ≡ []
+    → IsTable (record { names = names; frame = f; key = key; indices = indices; slots = slots; spare = spare })
 IsTable-new names f key indices slots spare frame named filled once cells room k i = record {
   frame = frame;
   named = named;
@@ -34,9 +38,21 @@ IsTable-new names f key indices slots spare frame named filled once cells room k
 }
 
 -- a copy of a table's parts is a table
-pub IsTable-copy : (t : TableSeen) (names : List (List ℕ)) (f : FrameSeen) (key : List ℕ) (indices : List IndexSeen) (slots spare : ℕ) → IsTable t → IsFrame f.columns f.rows → names ≡ t.names → vectors_of f.columns ≡ vectors_of t.frame.columns → f.rows ≡ t.frame.rows → key ≡ t.key → indices ≡ t.indices → length f.columns ≤ slots → IsTable (record { names = names; frame = f; key = key; indices = indices; slots = slots; spare = spare })
+pub IsTable-copy : (t : TableSeen) (names : List (List ℕ)) (f : FrameSeen) (key : List ℕ) (indices : List IndexSeen)
+    (slots spare : ℕ) → IsTable t → IsFrame f.columns f.rows → names ≡ t.names → vectors_of f.columns
+    ≡ vectors_of t.frame.columns → f.rows ≡ t.frame.rows → key ≡ t.key → indices ≡ t.indices
+    → length f.columns ≤ slots → IsTable (record {
+      names = names;
+      frame = f;
+      key = key;
+      indices = indices;
+      slots =
+          slots;
+      spare = spare;
+    })
 IsTable-copy t names f key indices slots spare h frame n v r k i room =
-    let width : length f.columns ≡ length t.frame.columns = sym (length-map f.columns (λ (c : Seen). c.vector)) ∙ (ap length v ∙ length-map t.frame.columns (λ (c : Seen). c.vector)) in
+    let width : length f.columns ≡ length t.frame.columns = sym (length-map f.columns (λ (c : Seen). c.vector))
+    ∙ (ap length v ∙ length-map t.frame.columns (λ (c : Seen). c.vector)) in
     record {
       frame = frame;
       named = rw (n, width) h.named;
@@ -49,7 +65,16 @@ IsTable-copy t names f key indices slots spare h frame n v r k i room =
     }
 
 -- other names in a table's columns
-pub IsTable-renamed : (t : TableSeen) (names : List (List ℕ)) (spare : ℕ) → IsTable t → length names ≡ length t.names → IsNames names → IsTable (record { names = names; frame = t.frame; key = t.key; indices = t.indices; slots = t.slots; spare = spare })
+pub IsTable-renamed : (t : TableSeen) (names : List (List ℕ)) (spare : ℕ) → IsTable t → length names ≡ length t.names
+    → IsNames names → IsTable (record {
+      names = names;
+      frame = t.frame;
+      key = t.key;
+      indices = t.indices;
+      slots =
+          t.slots;
+      spare = spare;
+    })
 IsTable-renamed t names spare h e n = record {
   frame = h.frame;
   named = e ∙ h.named;
@@ -66,18 +91,31 @@ IsFrame-roomier : (f g : FrameSeen) → IsFrame f.columns f.rows → IsRoomier f
 IsFrame-roomier f g h r =
     let long : length g.columns ≡ length f.columns = roomier_length f g r in
     let same : (k : ℕ) (d : Seen) → (get_or g.columns k d).vector ≡ (get_or f.columns k d).vector =
-    λ k d. sym (get_or-map (λ (x : Seen). x.vector) g.columns k d) ∙ (ap (λ (l : List Vector). get_or l k d.vector) r.vectors ∙ get_or-map (λ (x : Seen). x.vector) f.columns k d) in
+    λ k d. sym (get_or-map (λ (x : Seen). x.vector) g.columns k d)
+    ∙ (ap (λ (l : List Vector). get_or l k d.vector) r.vectors
+    ∙ get_or-map (λ (x : Seen). x.vector) f.columns k d) in
     record {
-      one_length = λ k d lt. (let was : length (get_or f.columns k d).vector.cells ≡ f.rows = h.one_length k d (subst (λ (n : ℕ). k < n) long lt) in rw (same k d, r.rows) was);
-      vectors = λ k d lt. (let was : IsVector (get_or f.columns k d).vector = h.vectors k d (subst (λ (n : ℕ). k < n) long lt) in rw (same k d) was);
+      one_length = λ k d lt. (let was : length (get_or f.columns k d).vector.cells
+          ≡ f.rows = h.one_length k d (subst (λ (n : ℕ). k < n) long lt) in rw (same k d, r.rows) was);
+      vectors = λ k d lt. (let was : IsVector (get_or f.columns k d).vector = h.vectors k d
+          (subst (λ (n : ℕ). k < n) long lt) in rw (same k d) was);
       none = λ e. r.rows ∙ h.none (sym long ∙ e);
       short = rw r.rows h.short;
     }
 
-pub IsTable-roomier : (t : TableSeen) (names : List (List ℕ)) (g : FrameSeen) (spare : ℕ) → IsTable t → names ≡ t.names → IsRoomier t.frame g → IsTable (record { names = names; frame = g; key = t.key; indices = t.indices; slots = t.slots; spare = spare })
+pub IsTable-roomier : (t : TableSeen) (names : List (List ℕ)) (g : FrameSeen) (spare : ℕ) → IsTable t → names
+    ≡ t.names → IsRoomier t.frame g → IsTable (record {
+      names = names;
+      frame = g;
+      key = t.key;
+      indices = t.indices;
+      slots = t.slots;
+      spare = spare;
+    })
 IsTable-roomier t names g spare h n r =
     let long : length g.columns ≡ length t.frame.columns = roomier_length t.frame g r in
-    IsTable-copy t names g t.key t.indices t.slots spare h (IsFrame-roomier t.frame g h.frame r) n r.vectors r.rows refl refl (let w = h.width in let e = h.named in omega arith)
+    IsTable-copy t names g t.key t.indices t.slots spare h (IsFrame-roomier t.frame g h.frame r) n r.vectors r.rows
+    refl refl (let w = h.width in let e = h.named in omega arith)
 
 pub same_width : (f g : List Seen) → vectors_of g ≡ vectors_of f → length g ≡ length f
 same_width f g v = sym (length-map g (λ (c : Seen). c.vector)) ∙ (ap length v ∙ length-map f (λ (c : Seen). c.vector))

@@ -13,7 +13,9 @@
 --   IsApplied t ch u      u is the table t, changed
 --   RoomFor t ch          the table's spare numbers suffice for the change
 --   written_cells parts   how many cells are written
-use Rattle.std.specs.Prelude.{◌≡◌, ◌+◌, ◌*◌, ◌<◌, ◌≤◌, ◌==◌, not, ℕ, zero, suc, Bool, true, false, if◌then◌else◌, List, [], ◌∷◌, ◌++◌, length, map, All, Option, None, Some}
+--   cells_in parts        how many cells the columns of the change have
+use Rattle.std.specs.Prelude.{◌≡◌, ◌+◌, ◌*◌, ◌<◌, ◌≤◌, ◌==◌, not, ℕ, zero, suc, Bool, true, false, if◌then◌else◌}
+use Rattle.std.specs.Prelude.{List, [], ◌∷◌, ◌++◌, length, map, All, Option, None, Some}
 use Rattle.std.specs.List.{IsDistinct, filter, list_any}
 use Rattle.dt_base.specs.declared.cell.Cell.{Cell}
 use Rattle.dt_base.specs.declared.limits.TheConstants.{MAX_CELLS}
@@ -146,7 +148,8 @@ pub record FitsColumn (rows : ℕ) (v : Vector) (at : List ℕ) (cells : List Ce
 
 abbrev pub FitsPart : TableSeen → PartSeen → Type 0
 FitsPart t (Replace c with) = (c < length t.names) × (length with.cells ≡ t.frame.rows)
-FitsPart t (Write c at cells) = (c < length t.names) × FitsColumn t.frame.rows (column_at t.frame.columns c).vector at cells
+FitsPart t (Write c at cells) = (c < length t.names) × FitsColumn t.frame.rows (column_at t.frame.columns c).vector at
+    cells
 FitsPart t (Add name with) = length with.cells ≡ t.frame.rows
 FitsPart t (Delete c) = c < length t.names
 
@@ -192,3 +195,10 @@ abbrev pub written_cells : List PartSeen → ℕ
 written_cells [] = 0
 written_cells (Write c at cells ∷ parts) = length at + written_cells parts
 written_cells (_ ∷ parts) = written_cells parts
+
+-- how many cells the columns of the change have, which its copy touches
+abbrev pub cells_in : List PartSeen → ℕ
+cells_in [] = 0
+cells_in (Replace c with ∷ parts) = length with.cells + cells_in parts
+cells_in (Add name with ∷ parts) = length with.cells + cells_in parts
+cells_in (_ ∷ parts) = cells_in parts

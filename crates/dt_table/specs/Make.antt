@@ -5,7 +5,8 @@ use Rattle.std.specs.Prelude.{◌≡◌, ℕ, List, length, Option, None, Some, 
 use Rattle.dt_model.specs.Table.{TableLimit, Rows, Cells, Columns, first_repeated, past_limit}
 use Rattle.na_vector.specs.Frame.{FrameSeen}
 use Rattle.dt_table.specs.declared.make.MakeFail.{MakeFail}
-use Rattle.dt_table.specs.declared.make.MakeFail.TheVariants.{Duplicate, TooManyRows, TooManyCells, TooManyColumns, NoMemory}
+use Rattle.dt_table.specs.declared.make.MakeFail.TheVariants.{Duplicate, TooManyRows, TooManyCells, TooManyColumns}
+use Rattle.dt_table.specs.declared.make.MakeFail.TheVariants.{NoMemory}
 
 -- a table that passes a limit is refused
 abbrev pub refusal_past : TableLimit → MakeFail

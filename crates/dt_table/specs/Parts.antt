@@ -5,16 +5,19 @@
 --   put_all parts vectors what all make of them
 --   left w p              what is left of a part that is made: a deletion, or one of column w, which
 --                         is none
+--   goes_before c p       the part deletes a column before c
 --   FitsNow f p           the part may be made of this frame, which has the room
 --   IsPut p old new       the frame before and after a part
 --   IsColumnOf width p    the part writes cells in one of so many columns, if in any
 --   IsRoomier old new     a frame before and after room was made in it
 --   columns_left_from, columns_left parts w xs   what stands at the first w places without what goes, and all behind
-use Rattle.std.specs.Prelude.{◌≡◌, ◌+◌, ◌<◌, ◌≤◌, ℕ, false, List, [], ◌∷◌, ◌++◌, length, take, drop, Some, slice_index_or, slice_set}
+use Rattle.std.specs.Prelude.{◌≡◌, ◌+◌, ◌<◌, ◌≤◌, nat_lt, ℕ, Bool, false, List, [], ◌∷◌, ◌++◌, length, take, drop}
+use Rattle.std.specs.Prelude.{Some, slice_index_or, slice_set}
 use Rattle.dt_base.specs.declared.cell.ColType.TheVariants as ty
 use Rattle.dt_model.specs.Vector.{Vector}
 use Rattle.na_vector.specs.Frame.{FrameSeen, column_at, vectors_of}
-use Rattle.dt_table.specs.Change.{FitsColumn, PartSeen, Replace, Write, Add, Delete, added_names, changed, is_of, kept, texts_in}
+use Rattle.dt_table.specs.Change.{FitsColumn, PartSeen, Replace, Write, Add, Delete, added_names, changed, is_of}
+use Rattle.dt_table.specs.Change.{kept, texts_in}
 
 abbrev pub vector_at : List Vector → ℕ → Vector
 vector_at vectors c = slice_index_or vectors c (record { kind = ty.Lgl; cells = [] })
@@ -36,9 +39,14 @@ abbrev pub left : ℕ → PartSeen → PartSeen
 left w (Delete c) = Delete c
 left w _ = Delete w
 
+abbrev pub goes_before : ℕ → PartSeen → Bool
+goes_before c (Delete d) = nat_lt d c
+goes_before c _ = false
+
 abbrev pub FitsNow : FrameSeen → PartSeen → Type 0
 FitsNow f (Replace c with) = (c < length f.columns) × (length with.cells ≡ f.rows)
-FitsNow f (Write c at cells) = (c < length f.columns) × FitsColumn f.rows (column_at f.columns c).vector at cells × (texts_in cells ≤ (column_at f.columns c).spare)
+FitsNow f (Write c at cells) = (c < length f.columns) × FitsColumn f.rows (column_at f.columns c).vector at cells
+    × (texts_in cells ≤ (column_at f.columns c).spare)
 FitsNow f (Add name with) = length with.cells ≡ f.rows
 FitsNow f (Delete c) = c < length f.columns
 

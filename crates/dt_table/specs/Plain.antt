@@ -21,7 +21,8 @@ plain t = record {
 abbrev pub plain_changed : TableSeen → ChangeSeen → PlainTable
 plain_changed t ch = record {
   columns = heads_of (names_changed ch.parts t.names) (vectors_changed ch.parts (vectors_of t.frame.columns));
-  rows = rows_of (rows_with (length (names_changed ch.parts t.names)) t.frame.rows) (vectors_changed ch.parts (vectors_of t.frame.columns));
+  rows = rows_of (rows_with (length (names_changed ch.parts t.names)) t.frame.rows)
+      (vectors_changed ch.parts (vectors_of t.frame.columns));
   key = names_at (names_changed ch.parts t.names) (key_changed ch.parts t.key);
   indices = map (λ x. names_at (names_changed ch.parts t.names) x.cols) (indices_changed ch.parts t.indices);
   slots = t.slots;

@@ -74,7 +74,15 @@ pub record IsTable (t : TableSeen) : Type 0 where
 
 -- a new table has no key and no index, and 1,024 slots more than columns
 abbrev pub made : List (List ℕ) → FrameSeen → ℕ → TableSeen
-made names frame spare = record { names = names; frame = frame; key = []; indices = []; slots = length names + SPARE_COLUMNS; spare = spare }
+made names frame spare = record {
+  names = names;
+  frame = frame;
+  key = [];
+  indices = [];
+  slots = length names +
+      SPARE_COLUMNS;
+  spare = spare;
+}
 
 -- a copy has 1,024 slots more than columns, and all else as it was
 pub record IsCopy (t copy : TableSeen) : Type 0 where

@@ -2,7 +2,8 @@ use dt_base::{Cell, ColName};
 use na_vector::Column;
 use std::marker::Model;
 
-/// One part of a change. It names a column by its place in the table that is changed, counted from 0.
+/// One part of a change. It names a column by its place in the table that is changed, counted
+/// from 0.
 #[derive(Drop)]
 pub enum Part {
     /// This column in another's place.

@@ -1,5 +1,5 @@
-ghost use Rattle.std.specs.Prelude.{◌≡◌, ◌++◌, ◌∷◌, [], IfOk, OnOk};
-ghost use Rattle.dt_table.specs.Change.{part_seen, parts_seen};
+ghost use Rattle.std.specs.Prelude.{◌≡◌, ◌≤◌, ◌+◌, ◌++◌, ◌∷◌, [], IfOk, OnOk};
+ghost use Rattle.dt_table.specs.Change.{cells_in, part_seen, parts_seen};
 
 use crate::{Index, Part};
 use dt_base::{Cell, ColName, Steps};
@@ -54,7 +54,8 @@ fn copied_part<L: Ledger>(
     part: &Part,
     steps: &mut Steps<L>,
 ) -> Result<Part, AllocError>
-    ensures { IfOk result (λ p. part_seen p ≡ part_seen part.now) }
+    ensures part { IfOk result (λ p. part_seen p ≡ part_seen part.now) }
+    ensures at_most { steps.new ≤ steps.old + cells_in (part_seen part.now ∷ []) }
 {
     Ok(match part {
         Part::Replace { col, with } => Part::Replace {
@@ -86,7 +87,8 @@ pub fn copied_parts<L: Ledger>(
     parts: &[Part],
     steps: &mut Steps<L>,
 ) -> Result<Vec<Part>, AllocError>
-    ensures { IfOk result (λ v. parts_seen v.items ≡ parts_seen parts.now) }
+    ensures parts { IfOk result (λ v. parts_seen v.items ≡ parts_seen parts.now) }
+    ensures at_most { steps.new ≤ steps.old + cells_in (parts_seen parts.now) }
 {
     let mut out = Vec::new(alloc);
     for part in parts {

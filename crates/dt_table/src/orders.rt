@@ -1,12 +1,15 @@
-ghost use Rattle.std.specs.Prelude.{◌≡◌, length, map};
-ghost use Rattle.std.specs.List.{list_any};
-ghost use Rattle.dt_table.specs.Change.{indices_changed, is_named, key_changed, parts_seen, stays_before};
+ghost use Rattle.std.specs.Prelude.{◌≡◌, ◌==◌, ℕ, length, map};
+ghost use Rattle.std.specs.List.{IsDistinct, list_any};
+ghost use Rattle.dt_table.specs.Change.{cols_of, indices_changed, is_named, key_changed};
+ghost use Rattle.dt_table.specs.Change.{parts_seen, stays_before};
 
 use crate::apply::{is_named, stays_before};
 use crate::{Index, Part};
 
 /// The key up to its first column that a part names, by the places that its columns have then.
+/// No two parts name one column.
 pub fn cut_key(key: &mut Vec<usize>, parts: &[Part])
+    requires once { IsDistinct (λ (a b : ℕ). a == b) (cols_of (parts_seen parts.now)) }
     ensures { key.new.items ≡ key_changed (parts_seen parts.now) key.old.items }
 {
     let mut k = 0;
@@ -31,6 +34,7 @@ fn is_touched(cols: &[usize], parts: &[Part]) -> bool
 
 /// The columns by the places that they have then.
 fn move_columns(cols: &mut Vec<usize>, parts: &[Part])
+    requires once { IsDistinct (λ (a b : ℕ). a == b) (cols_of (parts_seen parts.now)) }
     ensures { cols.new.items ≡ map (stays_before (parts_seen parts.now)) cols.old.items }
 {
     for k in 0..cols.len() {
@@ -40,6 +44,7 @@ fn move_columns(cols: &mut Vec<usize>, parts: &[Part])
 
 /// The indices of which no part names a column, by the places that their columns have then.
 pub fn cut_indices(indices: &mut Vec<Index>, parts: &[Part])
+    requires once { IsDistinct (λ (a b : ℕ). a == b) (cols_of (parts_seen parts.now)) }
     ensures { indices.new.items ≡ indices_changed (parts_seen parts.now) indices.old.items }
 {
     let mut k = 0;

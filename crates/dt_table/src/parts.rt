@@ -1,7 +1,9 @@
-ghost use Rattle.std.specs.Prelude.{◌≡◌, ◌==◌, ℕ, ◌+◌, ◌-◌, ◌<◌, ◌≤◌, ◌++◌, ◌∷◌, [], All, Some, length, map, remove, slice_set, vec_len, vec_capacity};
+ghost use Rattle.std.specs.Prelude.{◌≡◌, ◌==◌, ℕ, ◌+◌, ◌-◌, ◌<◌, ◌≤◌, ◌++◌, ◌∷◌, [], All, Some};
+ghost use Rattle.std.specs.Prelude.{length, map, remove, slice_set, vec_len, vec_capacity};
 ghost use Rattle.std.specs.List.{IsDistinct};
 ghost use Rattle.na_vector.specs.Frame.{IsFrame, rows_with, vectors_of};
-ghost use Rattle.dt_table.specs.Change.{added_names, cols_of, kept, part_seen, parts_seen, is_delete, names_changed, vectors_changed, written_cells};
+ghost use Rattle.dt_table.specs.Change.{added_names, cols_of, kept, part_seen, parts_seen};
+ghost use Rattle.dt_table.specs.Change.{is_delete, names_changed, vectors_changed, written_cells};
 ghost use Rattle.dt_table.specs.Parts.{FitsNow, IsPut, columns_left, left, part_in, put_all};
 
 use crate::Part;
@@ -20,10 +22,12 @@ fn put_part<L: Ledger>(
 )
     requires fits { FitsNow frame.old (part_seen part) }
     requires columns { length (added_names (part_seen part ∷ [])) ≤ frame.old.spare }
-    requires names { length (added_names (part_seen part ∷ [])) ≤ vec_capacity names.old - vec_len names.old }
+    requires names { length (added_names (part_seen part ∷ []))
+        ≤ vec_capacity names.old - vec_len names.old }
     ensures put { IsPut (part_seen part) frame.old frame.new }
     ensures names { names.new.items ≡ names.old.items ++ added_names (part_seen part ∷ []) }
-    ensures room { vec_capacity names.old - vec_len names.old ≤ vec_capacity names.new - vec_len names.new + length (added_names (part_seen part ∷ [])) }
+    ensures room { vec_capacity names.old - vec_len names.old
+        ≤ vec_capacity names.new - vec_len names.new + length (added_names (part_seen part ∷ [])) }
     ensures touches { steps.new ≡ steps.old + written_cells (part_seen part ∷ []) }
 {
     match part {
@@ -63,13 +67,20 @@ fn put_next<L: Ledger>(
 )
     requires place { k < vec_len parts.old }
     requires fits { FitsNow frame.old (part_in (parts_seen parts.old.items) k) }
-    requires columns { length (added_names (part_in (parts_seen parts.old.items) k ∷ [])) ≤ frame.old.spare }
-    requires names { length (added_names (part_in (parts_seen parts.old.items) k ∷ [])) ≤ vec_capacity names.old - vec_len names.old }
+    requires columns { length (added_names (part_in (parts_seen parts.old.items) k ∷ []))
+        ≤ frame.old.spare }
+    requires names { length (added_names (part_in (parts_seen parts.old.items) k ∷ []))
+        ≤ vec_capacity names.old - vec_len names.old }
     ensures put { IsPut (part_in (parts_seen parts.old.items) k) frame.old frame.new }
-    ensures names { names.new.items ≡ names.old.items ++ added_names (part_in (parts_seen parts.old.items) k ∷ []) }
-    ensures room { vec_capacity names.old - vec_len names.old ≤ vec_capacity names.new - vec_len names.new + length (added_names (part_in (parts_seen parts.old.items) k ∷ [])) }
-    ensures left { parts_seen parts.new.items ≡ slice_set (parts_seen parts.old.items) k (left none (part_in (parts_seen parts.old.items) k)) }
-    ensures touches { steps.new ≡ steps.old + written_cells (part_in (parts_seen parts.old.items) k ∷ []) }
+    ensures names { names.new.items ≡ names.old.items ++ added_names
+        (part_in (parts_seen parts.old.items) k ∷ []) }
+    ensures room { vec_capacity names.old - vec_len names.old
+        ≤ vec_capacity names.new - vec_len names.new + length
+        (added_names (part_in (parts_seen parts.old.items) k ∷ [])) }
+    ensures left { parts_seen parts.new.items ≡ slice_set (parts_seen parts.old.items) k
+        (left none (part_in (parts_seen parts.old.items) k)) }
+    ensures touches { steps.new ≡ steps.old + written_cells
+        (part_in (parts_seen parts.old.items) k ∷ []) }
 {
     if !is_delete(&parts[k]) {
         let part = replace(&mut parts[k], Part::Delete { col: none });
@@ -77,7 +88,8 @@ fn put_next<L: Ledger>(
     }
 }
 
-/// Makes all parts of a change in order, but for deletions, which it leaves. Column `none` is none of
+/// Makes all parts of a change in order, but for deletions, which it leaves. Column `none` is
+/// none of
 /// the table's.
 pub fn put_parts<L: Ledger>(
     names: &mut Vec<ColName>,
@@ -89,8 +101,10 @@ pub fn put_parts<L: Ledger>(
     requires fits { All (FitsNow frame.old) (parts_seen parts.old.items) }
     requires once { IsDistinct (λ (a b : ℕ). a == b) (cols_of (parts_seen parts.old.items)) }
     requires columns { length (added_names (parts_seen parts.old.items)) ≤ frame.old.spare }
-    requires names { length (added_names (parts_seen parts.old.items)) ≤ vec_capacity names.old - vec_len names.old }
-    ensures vectors { vectors_of frame.new.columns ≡ put_all (parts_seen parts.old.items) (vectors_of frame.old.columns) }
+    requires names { length (added_names (parts_seen parts.old.items))
+        ≤ vec_capacity names.old - vec_len names.old }
+    ensures vectors { vectors_of frame.new.columns
+        ≡ put_all (parts_seen parts.old.items) (vectors_of frame.old.columns) }
     ensures rows { frame.new.rows ≡ frame.old.rows }
     ensures names { names.new.items ≡ names.old.items ++ added_names (parts_seen parts.old.items) }
     ensures left { parts_seen parts.new.items ≡ map (left none) (parts_seen parts.old.items) }
@@ -118,7 +132,8 @@ pub fn drop_columns(names: &mut Vec<ColName>, frame: &mut Frame, parts: &[Part],
     requires width { width ≤ length names.old.items }
     requires each { length names.old.items ≡ length frame.old.columns }
     ensures names { names.new.items ≡ columns_left (parts_seen parts.now) width names.old.items }
-    ensures columns { frame.new.columns ≡ columns_left (parts_seen parts.now) width frame.old.columns }
+    ensures columns { frame.new.columns ≡ columns_left (parts_seen parts.now) width
+        frame.old.columns }
     ensures rows { frame.new.rows ≡ rows_with (length frame.new.columns) frame.old.rows }
 {
     let _ = frame.width();
@@ -143,10 +158,13 @@ pub fn change_columns<L: Ledger>(
     requires once { IsDistinct (λ (a b : ℕ). a == b) (cols_of (parts_seen parts.items)) }
     requires fits { All (FitsNow frame.old) (parts_seen parts.items) }
     requires columns { length (added_names (parts_seen parts.items)) ≤ frame.old.spare }
-    requires names { length (added_names (parts_seen parts.items)) ≤ vec_capacity names.old - vec_len names.old }
+    requires names { length (added_names (parts_seen parts.items))
+        ≤ vec_capacity names.old - vec_len names.old }
     ensures names { names.new.items ≡ names_changed (parts_seen parts.items) names.old.items }
-    ensures vectors { vectors_of frame.new.columns ≡ vectors_changed (parts_seen parts.items) (vectors_of frame.old.columns) }
-    ensures rows { frame.new.rows ≡ rows_with (length (names_changed (parts_seen parts.items) names.old.items)) frame.old.rows }
+    ensures vectors { vectors_of frame.new.columns
+        ≡ vectors_changed (parts_seen parts.items) (vectors_of frame.old.columns) }
+    ensures rows { frame.new.rows ≡ rows_with (length
+        (names_changed (parts_seen parts.items) names.old.items)) frame.old.rows }
     ensures touches { steps.new ≡ steps.old + written_cells (parts_seen parts.items) }
 {
     let mut parts = parts;

@@ -1,4 +1,5 @@
-ghost use Rattle.std.specs.Prelude.{◌≡◌, ◌+◌, ◌*◌, ◌<◌, ◌≤◌, IfOk, OnOk, IfErr, All, length, slice_get, Some};
+ghost use Rattle.std.specs.Prelude.{◌≡◌, ◌+◌, ◌*◌, ◌<◌, ◌≤◌, IfOk, OnOk, IfErr, All, length};
+ghost use Rattle.std.specs.Prelude.{slice_get, Some};
 ghost use Rattle.dt_model.specs.Table.{place_of};
 ghost use Rattle.dt_table.specs.Make.{refusal, IsCause};
 
@@ -18,7 +19,8 @@ use std::sync::ledger::Ledger;
 /// A table: named columns of one length, a key, indices, and a number of column slots.
 ///
 /// Its names are distinct and none is empty; it has at most 16,777,216 rows and 67,108,864 cells,
-/// and no more columns than slots. Over the columns of its key no row stands above the next one, and
+/// and no more columns than slots. Over the columns of its key no row stands above the next
+/// one, and
 /// each index has the rows in the order of its columns. Contracts see all its parts, and `plain`
 /// reads them row by row.
 #[derive(Drop)]
@@ -43,14 +45,16 @@ impl Model for Table {
 }
 
 impl Table {
-    ghost use Rattle.dt_table.specs.Table.{HasSame, IsColumnList, IsCopy, IsFilled, IsNames, IsTable, made, renamed};
-    ghost use Rattle.dt_table.specs.Change.{FitsTable, IsApplied, RoomFor, written_cells};
+    ghost use Rattle.dt_table.specs.Table.{HasSame, IsColumnList, IsCopy, IsFilled, IsNames};
+    ghost use Rattle.dt_table.specs.Table.{IsTable, made, renamed};
+    ghost use Rattle.dt_table.specs.Change.{FitsTable, IsApplied, RoomFor, cells_in, written_cells};
     ghost use Rattle.dt_table.specs.Plain.{plain, plain_changed};
 
     /// The table of these names and this frame, without key and indices, with 1,024 slots more than
     /// columns. There are as many names as columns, and no name is empty.
     ///
-    /// It is refused, first of these, where a name stands before it too (with the least such place),
+    /// It is refused, first of these, where a name stands before it too (with the least such
+    /// place),
     /// where there are too many rows, too many cells, or more than 4,096 columns. Its time and its
     /// memory are linear in the names.
     pub fn make(alloc: Global, names: Vec<ColName>, frame: Frame) -> Result<Table, MakeFail>
@@ -122,7 +126,8 @@ impl Table {
         self.names.iter().position(|n| n.as_str() == name)
     }
 
-    /// The columns of the key, counted from 0, the first one first. It also says what is so of every
+    /// The columns of the key, counted from 0, the first one first. It also says what is so of
+    /// every
     /// table.
     pub fn key(&self) -> &[usize]
         ensures key { result.now ≡ self.now.key }
@@ -151,8 +156,10 @@ impl Table {
     /// more than columns. It touches each cell.
     pub fn copy<L: Ledger>(&self, alloc: Global, steps: &mut Steps<L>) -> Result<Table, AllocError>
         ensures ok { IfOk result (IsCopy self.now) }
-        ensures touches { OnOk result (steps.new ≡ steps.old + length self.now.frame.columns * self.now.frame.rows) }
-        ensures at_most { steps.new ≤ steps.old + length self.now.frame.columns * self.now.frame.rows }
+        ensures touches { OnOk result (steps.new ≡ steps.old + length self.now.frame.columns *
+            self.now.frame.rows) }
+        ensures at_most { steps.new ≤ steps.old + length self.now.frame.columns *
+            self.now.frame.rows }
     {
         let names = copied_names(alloc, &self.names)?;
         let key = Vec::from_slice(alloc, &self.key)?;
@@ -169,7 +176,8 @@ impl Table {
     }
 
     /// Makes a change, which fits the table and for which there is room. It cuts the key before the
-    /// first column that is changed or goes, and drops each index that has such a column. It takes no
+    /// first column that is changed or goes, and drops each index that has such a column. It
+    /// takes no
     /// memory, and touches each cell that is written.
     pub fn apply<L: Ledger>(&mut self, ch: Change, steps: &mut Steps<L>)
         requires fits { FitsTable self.old ch }
@@ -185,7 +193,8 @@ impl Table {
         let _ = self.frame.width();
     }
 
-    /// Makes the room that `apply` of this change needs. Whatever its answer, spare numbers may have
+    /// Makes the room that `apply` of this change needs. Whatever its answer, spare numbers may
+    /// have
     /// risen, and all else is as it was.
     pub fn reserve_change(&mut self, ch: &Change) -> Result<(), AllocError>
         requires fits { FitsTable self.old ch.now }
@@ -197,13 +206,18 @@ impl Table {
         reserve_parts(&mut self.frame, added, &ch.parts)
     }
 
-    /// Gives columns other names, in the order of both lists. The columns are distinct and in range,
-    /// there are as many names, and all names are distinct then and none is empty. It takes no memory.
+    /// Gives columns other names, in the order of both lists. The columns are distinct and in
+    /// range,
+    /// there are as many names, and all names are distinct then and none is empty. It takes no
+    /// memory.
     pub fn rename(&mut self, cols: &[usize], names: Vec<ColName>)
         requires cols { IsColumnList (length self.old.names) cols.now }
         requires each { length cols.now ≡ length names.items }
         requires names { IsNames (renamed cols.now names.items self.old.names) }
-        ensures { self.new ≡ record self.old { names = renamed cols.now names.items self.old.names } }
+        ensures { self.new ≡ record self.old {
+          names = renamed cols.now names.items
+              self.old.names;
+        } }
     {
         let mut names = names;
         rename_columns(&mut self.names, cols, &mut names);
@@ -211,7 +225,9 @@ impl Table {
 
     /// The same table once more, its slots included, in memory of its own.
     fn same<L: Ledger>(&self, alloc: Global, steps: &mut Steps<L>) -> Result<Table, AllocError>
-        ensures { IfOk result (HasSame self.now) }
+        ensures same { IfOk result (HasSame self.now) }
+        ensures at_most { steps.new ≤ steps.old + length self.now.frame.columns *
+            self.now.frame.rows }
     {
         let names = copied_names(alloc, &self.names)?;
         let own_key = Vec::from_slice(alloc, &self.key)?;
@@ -228,7 +244,9 @@ impl Table {
     }
 
     /// The new table that `apply` of this change, which fits, would leave, its slots included. This
-    /// table stays as it is.
+    /// table stays as it is. It touches each cell of the table and of the change's columns, and
+    /// each cell
+    /// that is written.
     pub fn preview<L: Ledger>(
         &self,
         alloc: Global,
@@ -238,6 +256,8 @@ impl Table {
         requires fits { FitsTable self.now ch.now }
         ensures applied { IfOk result (IsApplied self.now ch.now) }
         ensures plain { IfOk result (λ u. plain u ≡ plain_changed self.now ch.now) }
+        ensures at_most { steps.new ≤ steps.old + (length self.now.frame.columns *
+            self.now.frame.rows + (cells_in ch.now.parts + written_cells ch.now.parts)) }
     {
         let _ = self.names();
         let mut table = self.same(alloc, steps)?;

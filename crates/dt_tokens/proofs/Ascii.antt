@@ -1,5 +1,6 @@
 -- Names are ASCII.
-use Rattle.std.proofs.Common.{◌≡◌, ℕ, zero, suc, ◌+◌, ◌<◌, Bool, true, false, cond, List, [], ◌∷◌, length, take, drop, IsUtf8, IsAscii, arith, slice_index, refl}
+use Rattle.std.proofs.Common.{◌≡◌, ℕ, zero, suc, ◌+◌, ◌<◌, Bool, true, false, cond, List, [], ◌∷◌, length, take, drop}
+use Rattle.std.proofs.Common.{IsUtf8, IsAscii, arith, slice_index, refl}
 use Rattle.std.proofs.lemmas.Bool.Decides.{nat_tests}
 use Rattle.std.proofs.lemmas.Str.{IsUtf8-from_ascii, IsAscii-append}
 use Rattle.run_model.specs.Bytes.{is_in, run}
@@ -20,7 +21,8 @@ more_ascii b bs n small rest =
 by_test : (b : ℕ) (bs : List ℕ) (t : Bool) → is_in class.Name b ≡ t →
     IsAscii (take (run (is_in class.Name) bs) bs) →
     IsAscii (take (cond t (run (is_in class.Name) bs + 1) 0) (b ∷ bs))
-by_test b bs true h rest = let e : run (is_in class.Name) bs + 1 ≡ 1 + run (is_in class.Name) bs = omega arith in rw e (more_ascii b bs _ (name_byte b h) rest)
+by_test b bs true h rest = let e : run (is_in class.Name) bs + 1 ≡ 1 + run (is_in class.Name) bs = omega arith in
+    rw e (more_ascii b bs _ (name_byte b h) rest)
 by_test b bs false h rest = λ i. omega arith
 
 run_is_ascii : (s : List ℕ) → IsAscii (take (run (is_in class.Name) s) s)

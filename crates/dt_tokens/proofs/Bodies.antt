@@ -1,5 +1,6 @@
 -- The bytes up to the closing quote and what they stand for, against the grammar of a body.
-use Rattle.std.proofs.Common.{◌≡◌, ◌≢◌, ⊎_elim, ℕ, suc, ◌+◌, ◌==◌, Bool, true, false, List, [], ◌∷◌, ◌++◌, length, take, drop, Option, Some, None, Result, Ok, Err, refl, ap, sym, subst, ◌∙◌, arith}
+use Rattle.std.proofs.Common.{◌≡◌, ◌≢◌, ⊎_elim, ℕ, suc, ◌+◌, ◌==◌, Bool, true, false, List, [], ◌∷◌, ◌++◌, length, take}
+use Rattle.std.proofs.Common.{drop, Option, Some, None, Result, Ok, Err, refl, ap, sym, subst, ◌∙◌, arith}
 use Rattle.std.proofs.lemmas.Bool.Decides.{eqb_tells, nat_tests}
 use Rattle.std.proofs.lemmas.List.{take_at}
 use Rattle.dt_tree.specs.declared.token.Token.TheVariants.{Chr}
@@ -20,12 +21,15 @@ body_len q bs ts rest h (done {q = r}) = rw (same_byte r) refl
 body_len q bs ts rest h (straight {q = r} {bs = cs} {ts = us} b apart other more) =
     rw (other_byte b r apart, other_byte b 92 other) (ap ahead (body_len r cs us rest h more) ∙ ap Some (omega arith))
 body_len q bs ts rest h (escaped {q = r} {bs = cs} {ts = us} b c is more) =
-    rw (other_byte 92 r (λ e. h (sym e))) (ap (λ o. ahead (ahead o)) (body_len r cs us rest h more) ∙ ap Some (omega arith))
+    rw (other_byte 92 r (λ e. h (sym e))) (ap (λ o. ahead (ahead o)) (body_len r cs us rest h more)
+    ∙ ap Some (omega arith))
 
 body_meaning : (q : ℕ) (bs ts : List ℕ) → IsBody q bs ts → meaning false bs ≡ Ok ts
 body_meaning q bs ts (done {q = r}) = refl
-body_meaning q bs ts (straight {q = r} {bs = cs} {ts = us} b apart other more) = rw (other_byte b 92 other) (ap (plain b) (body_meaning r cs us more))
-body_meaning q bs ts (escaped {q = r} {bs = cs} {ts = us} b c is more) = rw is (ap (onto (Some c)) (body_meaning r cs us more))
+body_meaning q bs ts (straight {q = r} {bs = cs} {ts = us} b apart other more) =
+    rw (other_byte b 92 other) (ap (plain b) (body_meaning r cs us more))
+body_meaning q bs ts (escaped {q = r} {bs = cs} {ts = us} b c is more) =
+    rw is (ap (onto (Some c)) (body_meaning r cs us more))
 
 pub body_read : (q : ℕ) (bs ts rest : List ℕ) → q ≢ 92 → IsBody q bs ts →
     text_at (q ∷ (bs ++ q ∷ rest)) ≡ Found (Spelled (Chr ts)) (length bs + 2)
@@ -83,7 +87,13 @@ spelt_quote q b s n ts e zero_len is =
 spelt_plain : (q b : ℕ) (s : List ℕ) (n m : ℕ) (ts us : List ℕ) → b ≢ q → b ≢ 92 → n ≡ m + 1 → ts ≡ b ∷ us →
     Spelt q s m us → Spelt q (b ∷ s) n ts
 spelt_plain q b s n m ts us apart other len text r =
-    record { bs = b ∷ r.bs; rest = r.rest; whole = ap (λ x. b ∷ x) r.whole; len = omega (arith, r.len); body = subst (IsBody q (b ∷ r.bs)) (sym text) (straight b apart other r.body) }
+    record {
+      bs = b ∷ r.bs;
+      rest = r.rest;
+      whole = ap (λ x. b ∷ x) r.whole;
+      len = omega (arith, r.len);
+      body = subst (IsBody q (b ∷ r.bs)) (sym text) (straight b apart other r.body);
+    }
 
 spelt_escaped : (q b : ℕ) (s : List ℕ) (n m : ℕ) (ts : List ℕ) → b ≡ 92 → n ≡ m + 1 → Escapes q s m ts →
     Spelt q (b ∷ s) n ts
@@ -116,7 +126,8 @@ mutual
   spelt [] q n ts h len is = absurd (cc)
   spelt (b ∷ s) q n ts h len is =
       ⊎_elim
-      (λ p. let e : Some 0 ≡ Some n = sym (len_quote q b s p.0) ∙ len in let f : 0 ≡ n = cc in spelt_quote q b s n ts p.1 f is)
+      (λ p. let e : Some 0 ≡ Some n = sym (len_quote q b s p.0) ∙ len in let f : 0 ≡ n = cc in
+      spelt_quote q b s n ts p.1 f is)
       (λ p.
       ⊎_elim
       (λ r.
@@ -142,7 +153,18 @@ mutual
       let a = ahead_some (text_len q false s) n len in
       let f : meaning true (b ∷ take a.0 s) ≡ Ok ts = ap (meaning true) (sym (take_one_more b s n a.0 a.2)) ∙ is in
       let k = onto_ok (escape b) (meaning false (take a.0 s)) ts f in
-      record { b = b; c = k.0; tail = s; us = k.1; m = a.0; whole = refl; escape = k.2; text = k.4; len = a.2; spelt = spelt s q a.0 k.1 h a.1 k.3 }
+      record {
+        b = b;
+        c = k.0;
+        tail = s;
+        us = k.1;
+        m = a.0;
+        whole = refl;
+        escape = k.2;
+        text = k.4;
+        len = a.2;
+        spelt = spelt s q a.0 k.1 h a.1 k.3;
+      }
 
 closed_found : (s : List ℕ) (o : Option ℕ) (ts : List ℕ) (n : ℕ) →
     closed_text s o ≡ Found (Spelled (Chr ts)) n →

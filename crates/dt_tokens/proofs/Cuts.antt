@@ -22,7 +22,11 @@ pub record Reached (s : List ℕ) (i : ℕ) (b : Before) (ts : List Placed) : Ty
 
 cuts_push : (xs : List Cut) (s : List ℕ) (i j : ℕ) (x : Cut) → Cuts s i xs j → x.at ≡ place_at s j →
     first (drop j s) ≡ Found x.piece x.len → Cuts s i (xs ++ x ∷ []) (j + x.len)
-cuts_push [] s i j x cut at found = (at ∙ ap (place_at s) (sym cut), ap (λ k. first (drop k s)) cut ∙ found, ap (λ k. k + x.len) cut)
+cuts_push [] s i j x cut at found = (
+  at ∙ ap (place_at s) (sym cut),
+  ap (λ k. first (drop k s)) cut ∙ found,
+  ap (λ k. k + x.len) cut,
+)
 cuts_push (y ∷ ys) s i j x cut at found = (cut.0, cut.1, cuts_push ys s (i + y.len) j x cut.2 at found)
 
 after_push : (xs : List Cut) (b : Before) (x : Cut) → all_after b (xs ++ x ∷ []) ≡ after (all_after b xs) x.piece
@@ -32,7 +36,9 @@ after_push (y ∷ ys) b x = after_push ys (after b y.piece) x
 tokens_push : (xs : List Cut) (b : Before) (x : Cut) →
     tokens_of b (xs ++ x ∷ []) ≡ tokens_of b xs ++ token_of (all_after b xs) x.at x.piece
 tokens_push [] b x = append-nil _
-tokens_push (y ∷ ys) b x = ap (λ r. token_of b y.at y.piece ++ r) (tokens_push ys (after b y.piece) x) ∙ sym (append_assoc (token_of b y.at y.piece) (tokens_of (after b y.piece) ys) (token_of (all_after (after b y.piece) ys) x.at x.piece))
+tokens_push (y ∷ ys) b x = ap (λ r. token_of b y.at y.piece ++ r) (tokens_push ys (after b y.piece) x)
+    ∙ sym (append_assoc (token_of b y.at y.piece) (tokens_of (after b y.piece) ys)
+    (token_of (all_after (after b y.piece) ys) x.at x.piece))
 
 pub reached_begin : (s : List ℕ) → Reached s 0 begin []
 reached_begin s = record { pieces = []; cut = refl; state = refl; tokens = refl }

@@ -70,7 +70,8 @@ one_mark : unmarked (239 ∷ 187 ∷ 191 ∷ 239 ∷ 187 ∷ 191 ∷ []) ≡ 239
 one_mark = refl
 
 -- "a<-" and "b" on the next line: the line feed behind the arrow is no token
-goes_on_over_line : Spells (97 ∷ 60 ∷ 45 ∷ 10 ∷ 98 ∷ 10 ∷ []) (token 1 1 (Name (97 ∷ [])) ∷ token 1 2 (Sign sign.Arrow) ∷ token 2 1 (Name (98 ∷ [])) ∷ token 2 2 (Break 3) ∷ [])
+goes_on_over_line : Spells (97 ∷ 60 ∷ 45 ∷ 10 ∷ 98 ∷ 10 ∷ [])
+    (token 1 1 (Name (97 ∷ [])) ∷ token 1 2 (Sign sign.Arrow) ∷ token 2 1 (Name (98 ∷ [])) ∷ token 2 2 (Break 3) ∷ [])
 goes_on_over_line = record {
   pieces =
       piece 1 1 (Spelled (Name (97 ∷ []))) 1 ∷

@@ -1,5 +1,6 @@
 -- Behind a break where no bracket is open the next token stands on the break's line.
-use Rattle.std.proofs.Common.{◌≡◌, ℕ, ◌+◌, ◌==◌, ◌&&◌, Bool, true, false, cond, not, List, [], ◌∷◌, ◌++◌, length, refl, ap, sym, subst, ◌∙◌, arith}
+use Rattle.std.proofs.Common.{◌≡◌, ℕ, ◌+◌, ◌==◌, ◌&&◌, Bool, true, false, cond, not, List, [], ◌∷◌, ◌++◌, length, refl}
+use Rattle.std.proofs.Common.{ap, sym, subst, ◌∙◌, arith}
 use Rattle.std.proofs.lemmas.Bool.Decides.{nat_tests}
 use Rattle.dt_tree.specs.declared.token.Place.{Place}
 use Rattle.dt_tree.specs.declared.token.Token.{Token}
@@ -29,7 +30,9 @@ head_on : (xs : List Cut) (s : List ℕ) (i j : ℕ) (b : Before) → Cuts s i x
     HeadOnLine (place_at s i).line (tokens_of b xs)
 head_on [] s i j b cut flat free = tt
 head_on (x ∷ xs) s i j b cut flat free =
-    head_piece x.piece b x.at (place_at s i).line (place_at s (i + x.len)).line (λ c. tokens_of c xs) (ap (λ p. p.line) cut.0) flat free (line_after s i x.piece x.len cut.1) (head_on xs s (i + x.len) j b cut.2 flat free)
+    head_piece x.piece b x.at (place_at s i).line (place_at s (i + x.len)).line (λ c. tokens_of c xs)
+    (ap (λ p. p.line) cut.0) flat free (line_after s i x.piece x.len cut.1)
+    (head_on xs s (i + x.len) j b cut.2 flat free)
 
 not_true : (t : Bool) → not t ≡ true → t ≡ false
 not_true true h = absurd (cc)
@@ -43,8 +46,11 @@ feed_leads : (t : Bool) (b : Before) (at : Place) (m : ℕ) (us : List Placed) �
     BreaksLead b.depth (cond t (record { at = at; token = Break (at.line + 1) } ∷ []) [] ++ us)
 feed_leads false b at m us is line head leads = leads
 feed_leads true b at m us is line head leads =
-    let parts = both_true (b.depth == 0) (not b.joins) is in
-    (λ flat n e. let f : at.line + 1 ≡ n = cc in subst (λ k. HeadOnLine k us) (line ∙ f) (head flat (not_true b.joins parts.1)), leads)
+    let parts = both_true (b.depth == 0) (not b.joins) is in (
+      λ flat n e. let f : at.line + 1 ≡ n = cc in
+          subst (λ k. HeadOnLine k us) (line ∙ f) (head flat (not_true b.joins parts.1)),
+      leads,
+    )
 
 shown_deeper : (t : Token) (at : Place) (n : ℕ) → deeper n (shown at t) ≡ deeper n t
 shown_deeper (Sign sign.Semi) at n = refl
@@ -60,7 +66,8 @@ token_leads : (t : Token) (b : Before) (at : Place) (l m : ℕ) (rest : Before �
     b.depth ≡ 0 → (n : ℕ) → shown at t ≡ Break n → HeadOnLine n (rest (after b (Spelled t)))
 token_leads (Sign sign.Semi) b at l m rest is line head flat n e =
     let f : at.line ≡ n = cc in
-    subst (λ k. HeadOnLine k (rest (after b (Spelled (Sign sign.Semi))))) (line ∙ sym is ∙ f) (head (after b (Spelled (Sign sign.Semi))) flat refl)
+    subst (λ k. HeadOnLine k (rest (after b (Spelled (Sign sign.Semi))))) (line ∙ sym is ∙ f)
+    (head (after b (Spelled (Sign sign.Semi))) flat refl)
 token_leads (Sign x) b at l m rest is line head flat n e = absurd (cc)
 token_leads (Name w) b at l m rest is line head flat n e = absurd (cc)
 token_leads (Word w) b at l m rest is line head flat n e = absurd (cc)
@@ -73,15 +80,22 @@ leads_piece : (p : Piece) (b : Before) (at : Place) (l m : ℕ) (rest : Before �
     BreaksLead (after b p).depth (rest (after b p)) →
     BreaksLead b.depth (token_of b at p ++ rest (after b p))
 leads_piece Layout b at l m rest is line head leads = leads
-leads_piece Feed b at l m rest is line head leads = feed_leads (ends_line b) b at m (rest b) refl (line ∙ ap (λ k. k + 1) (sym is)) (head b) leads
-leads_piece (Spelled t) b at l m rest is line head leads =
-    (token_leads t b at l m rest is line head, subst (λ d. BreaksLead d (rest (after b (Spelled t)))) (sym (shown_deeper t at b.depth)) leads)
+leads_piece Feed b at l m rest is line head leads =
+    feed_leads (ends_line b) b at m (rest b) refl (line ∙ ap (λ k. k + 1) (sym is)) (head b) leads
+leads_piece (Spelled t) b at l m rest is line head leads = (
+  token_leads t b at l m rest is line head,
+  subst (λ d. BreaksLead d (rest (after b (Spelled t)))) (sym (shown_deeper t at b.depth)) leads,
+)
 
 leads : (xs : List Cut) (s : List ℕ) (i j : ℕ) (b : Before) → Cuts s i xs j → BreaksLead b.depth (tokens_of b xs)
 leads [] s i j b cut = tt
 leads (x ∷ xs) s i j b cut =
-    leads_piece x.piece b x.at (place_at s i).line (place_at s (i + x.len)).line (λ c. tokens_of c xs) (ap (λ p. p.line) cut.0) (line_after s i x.piece x.len cut.1) (λ c flat free. head_on xs s (i + x.len) j c cut.2 flat free) (leads xs s (i + x.len) j (after b x.piece) cut.2)
+    leads_piece x.piece b x.at (place_at s i).line (place_at s (i + x.len)).line (λ c. tokens_of c xs)
+    (ap (λ p. p.line) cut.0) (line_after s i x.piece x.len cut.1)
+    (λ c flat free. head_on xs s (i + x.len) j c cut.2 flat free) (leads xs s (i + x.len) j (after b x.piece) cut.2)
 
 pub breaks_lead : (s : List ℕ) (ts : List Placed) → Spells s ts → HeadOnLine 1 ts × BreaksLead 0 ts
-breaks_lead s ts a =
-    (subst (HeadOnLine 1) a.tokens (head_on a.pieces s 0 (length s) begin a.cut refl refl), subst (BreaksLead 0) a.tokens (leads a.pieces s 0 (length s) begin a.cut))
+breaks_lead s ts a = (
+  subst (HeadOnLine 1) a.tokens (head_on a.pieces s 0 (length s) begin a.cut refl refl),
+  subst (BreaksLead 0) a.tokens (leads a.pieces s 0 (length s) begin a.cut),
+)

@@ -9,4 +9,5 @@ use Rattle.run_model.specs.Tokens.{mark}
 
 pub unmarked_text : (s : List ℕ) → IsUtf8 s → starts_with nat_eq s mark ≡ true → IsUtf8 (drop 3 s)
 unfolding lib.Utf8.encode
-unmarked_text s u h = IsUtf8-past_char s (drop 3 s) 65279 u ((starts_is Decides-eqb s mark (starts_with nat_eq s mark) refl).0 h)
+unmarked_text s u h = IsUtf8-past_char s (drop 3 s) 65279 u
+    ((starts_is Decides-eqb s mark (starts_with nat_eq s mark) refl).0 h)

@@ -7,7 +7,8 @@ use Rattle.dt_tree.specs.declared.pieces.First.TheVariants.{Found}
 use Rattle.dt_tree.specs.declared.fault.ScriptFault.{ScriptFault}
 use Rattle.dt_tree.specs.declared.fault.ScriptFault.TheVariants.{NotUtf8, Syntax, Number, TooDeep}
 use Rattle.run_model.specs.First.{first}
-use Rattle.run_model.specs.Tokens.{Cut, Cuts, begin, tokens_of, Spells, IsFirstFault, fault_of, AreTokens, HasFault, too_deep, unmarked}
+use Rattle.run_model.specs.Tokens.{Cut, Cuts, begin, tokens_of, Spells, IsFirstFault, fault_of, AreTokens, HasFault}
+use Rattle.run_model.specs.Tokens.{too_deep, unmarked}
 
 -- at the byte j no piece begins: the end, or a fault
 abbrev Stops : List ℕ → ℕ → Type 0
@@ -37,22 +38,26 @@ stops_at_end s j end x found = let e = sym at_end ∙ found in absurd (cc)
     at_end = ap first (drop_all j s (omega arith))
 
 stops_at_fault : (s : List ℕ) (j : ℕ) (f : ScriptFault) → fault_of s j (first (drop j s)) ≡ Some f → Stops s j
-stops_at_fault s j f fault x found = let e : fault_of s j (Found x.piece x.len) ≡ Some f = ap (fault_of s j) (sym found) ∙ fault in absurd (cc)
+stops_at_fault s j f fault x found = let e : fault_of s j (Found x.piece x.len) ≡ Some f = ap (fault_of s j) (sym found)
+    ∙ fault in absurd (cc)
 
 pub spells_one : (s : List ℕ) (ts us : List Placed) → Spells s ts → Spells s us → ts ≡ us
 spells_one s ts us a b =
-    let same = same_cuts a.pieces b.pieces s 0 (length s) (length s) a.cut b.cut (stops_at_end s (length s) refl) (stops_at_end s (length s) refl) in
+    let same = same_cuts a.pieces b.pieces s 0 (length s) (length s) a.cut b.cut (stops_at_end s (length s) refl)
+    (stops_at_end s (length s) refl) in
     sym a.tokens ∙ ap (tokens_of begin) same.pieces ∙ b.tokens
 
 pub first_fault_one : (s : List ℕ) (f g : ScriptFault) → IsFirstFault s f → IsFirstFault s g → f ≡ g
 first_fault_one s f g a b =
-    let same = same_cuts a.pieces b.pieces s 0 a.at b.at a.cut b.cut (stops_at_fault s a.at f a.fault) (stops_at_fault s b.at g b.fault) in
+    let same = same_cuts a.pieces b.pieces s 0 a.at b.at a.cut b.cut (stops_at_fault s a.at f a.fault)
+    (stops_at_fault s b.at g b.fault) in
     let e : Some f ≡ Some g = sym a.fault ∙ ap (λ j. fault_of s j (first (drop j s))) same.place ∙ b.fault in
     cc
 
 pub spells_no_fault : (s : List ℕ) (ts : List Placed) (f : ScriptFault) → Spells s ts → ¬ IsFirstFault s f
 spells_no_fault s ts f a b =
-    let same = same_cuts a.pieces b.pieces s 0 (length s) b.at a.cut b.cut (stops_at_end s (length s) refl) (stops_at_fault s b.at f b.fault) in
+    let same = same_cuts a.pieces b.pieces s 0 (length s) b.at a.cut b.cut (stops_at_end s (length s) refl)
+    (stops_at_fault s b.at f b.fault) in
     absurd (omega (arith, same.place, b.within))
 
 kept_deep : (s : List ℕ) (p q : Place) (a : HasFault s (TooDeep p)) (b : HasFault s (TooDeep q)) → Some p ≡ Some q
@@ -80,4 +85,5 @@ pub not_both : (s : List ℕ) (ts : List Placed) (f : ScriptFault) → AreTokens
 not_both s ts NotUtf8 a b = b a.utf8
 not_both s ts (Syntax q) a b = spells_no_fault (unmarked s) ts (Syntax q) a.spelled b.1
 not_both s ts (Number q) a b = spells_no_fault (unmarked s) ts (Number q) a.spelled b.1
-not_both s ts (TooDeep q) a b = let e : None ≡ Some q = sym a.flat ∙ ap (too_deep 0) (spells_one (unmarked s) ts b.1 a.spelled b.2) ∙ b.3 in absurd (cc)
+not_both s ts (TooDeep q) a b = let e : None ≡ Some q = sym a.flat
+    ∙ ap (too_deep 0) (spells_one (unmarked s) ts b.1 a.spelled b.2) ∙ b.3 in absurd (cc)

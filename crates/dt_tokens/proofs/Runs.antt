@@ -1,5 +1,6 @@
 -- A run is all of the class, and what follows it is not.
-use Rattle.std.proofs.Common.{◌≡◌, ℕ, zero, suc, ◌+◌, ◌<◌, Bool, true, false, cond, List, [], ◌∷◌, get_or, drop, refl, arith}
+use Rattle.std.proofs.Common.{◌≡◌, ℕ, zero, suc, ◌+◌, ◌<◌, Bool, true, false, cond, List, [], ◌∷◌, get_or, drop, refl}
+use Rattle.std.proofs.Common.{arith}
 use Rattle.run_model.specs.Bytes.{run, head_is}
 
 in_test : (p : ℕ → Bool) (b : ℕ) (s : List ℕ) (i : ℕ) (t : Bool) → p b ≡ t →

@@ -1,5 +1,6 @@
 -- Texts, byte by byte.
-use Rattle.std.proofs.Common.{◌≡◌, ℕ, ◌+◌, List, [], ◌∷◌, ◌++◌, Option, Some, None, option_map, Result, Ok, Err, refl, ap, sym, append_assoc, arith}
+use Rattle.std.proofs.Common.{◌≡◌, ℕ, ◌+◌, List, [], ◌∷◌, ◌++◌, Option, Some, None, option_map, Result, Ok, Err, refl}
+use Rattle.std.proofs.Common.{ap, sym, append_assoc, arith}
 use Rattle.run_model.specs.First.{ahead, onto, plain}
 
 pub counted : (o : Option ℕ) (n : ℕ) → option_map (λ k. n + k) (ahead o) ≡ option_map (λ k. (n + 1) + k) o

@@ -1,8 +1,13 @@
 -- What stands between the quotes of a text in UTF-8 stands for a text in UTF-8.
-use Rattle.std.proofs.Common.{◌≡◌, ℕ, suc, ◌+◌, ◌-◌, ◌<◌, ◌≤◌, ◌==◌, ◌&&◌, ◌||◌, Bool, true, false, cond, List, [], ◌∷◌, ◌++◌, length, get_or, take, drop, slice_index, IsUtf8, Option, Some, None, Result, Ok, Err, IfOk, IfSome, refl, ap, sym, subst, ⊎_elim, ◌∙◌, append-nil, add-zero, arith, get_or-drop, length-drop, drop-drop}
+use Rattle.std.proofs.Common.{◌≡◌, ℕ, suc, ◌+◌, ◌-◌, ◌<◌, ◌≤◌, ◌==◌, ◌&&◌, ◌||◌, Bool, true, false, cond, List, [], ◌∷◌}
+use Rattle.std.proofs.Common.{◌++◌, length, get_or, take, drop, slice_index, IsUtf8, Option, Some, None, Result, Ok}
+use Rattle.std.proofs.Common.{Err, IfOk, IfSome, refl, ap, sym, subst, ⊎_elim, ◌∙◌, append-nil, add-zero, arith}
+use Rattle.std.proofs.Common.{get_or-drop, length-drop, drop-drop}
 use Rattle.std.proofs.lemmas.Bool.Decides.{nat_tests}
 use Rattle.std.proofs.lemmas.List.{drop_all}
-use Rattle.std.proofs.lemmas.Str.{IsUtf8-append, IsUtf8-nil, IsUtf8-from_ascii, IsUtf8-encode, IsUtf8-between, IsCharBoundary-after_ascii, IsCharBoundary-before_ascii, encode_ascii, inside_one, length-encode, len_utf8_bounds}
+use Rattle.std.proofs.lemmas.Str.{IsUtf8-append, IsUtf8-nil, IsUtf8-from_ascii, IsUtf8-encode, IsUtf8-between}
+use Rattle.std.proofs.lemmas.Str.{IsCharBoundary-after_ascii, IsCharBoundary-before_ascii, encode_ascii, inside_one}
+use Rattle.std.proofs.lemmas.Str.{length-encode, len_utf8_bounds}
 use Rattle.std.proofs.str.Laws.{order}
 use lib.Utf8.{scalars, encodes, encode, scalar}
 use Rattle.run_model.specs.First.{meaning, onto, plain, escape}
@@ -11,7 +16,9 @@ use Rattle.dt_tokens.proofs.Ascii.{one_ascii}
 
 high_bytes : (c : ℕ) → 128 ≤ c → (k : ℕ) → k < length (encode c) → 128 ≤ get_or (encode c) k 0
 high_bytes c high k within =
-    ⊎_elim (λ small. let e : c ≡ get_or (encode c) k 0 = inside_one c [] (encode c) k (sym (append-nil (encode c))) within small in absurd (omega arith)) (λ h. h) (order (get_or (encode c) k 0) 128)
+    ⊎_elim (λ small. let e : c ≡ get_or (encode c) k 0 =
+    inside_one c [] (encode c) k (sym (append-nil (encode c))) within small in absurd (omega arith)) (λ h. h)
+    (order (get_or (encode c) k 0) 128)
 
 plain_if : (P : List ℕ → Type 0) (r : Result (List ℕ) ℕ) (b : ℕ) → IfOk r (λ bs. P (b ∷ bs)) → IfOk (plain b r) P
 plain_if P (Ok bs) b h = h
@@ -26,7 +33,9 @@ copied : (xs : List ℕ) (P : List ℕ → Type 0) (rest : List ℕ) →
     IfOk (meaning false (xs ++ rest)) P
 copied [] P rest high h = h
 copied (x ∷ xs) P rest high h =
-    rw (not_backslash x (high 0 (omega arith))) (plain_if P (meaning false (xs ++ rest)) x (copied xs (λ bs. P (x ∷ bs)) rest (λ k l. high (suc k) (omega arith)) h))
+    rw (not_backslash x (high 0 (omega arith)))
+    (plain_if P (meaning false (xs ++ rest)) x
+    (copied xs (λ bs. P (x ∷ bs)) rest (λ k l. high (suc k) (omega arith)) h))
 
 prefix_if : (front : List ℕ) → IsUtf8 front → (r : Result (List ℕ) ℕ) → IfOk r IsUtf8 →
     IfOk r (λ bs. IsUtf8 (front ++ bs))
@@ -59,7 +68,14 @@ is_other : (b n : ℕ) → n < b → (b == n) ≡ false
 is_other b n less = grind (arith, nat_tests)
 
 escape_high : (b : ℕ) → 128 ≤ b → escape b ≡ None
-escape_high b high = rw (is_other b 110 (omega arith), is_other b 116 (omega arith), is_other b 114 (omega arith), is_other b 92 (omega arith), is_other b 34 (omega arith), is_other b 39 (omega arith)) refl
+escape_high b high = rw (
+  is_other b 110 (omega arith),
+  is_other b 116 (omega arith),
+  is_other b 114 (omega arith),
+  is_other b 92 (omega arith),
+  is_other b 34 (omega arith),
+  is_other b 39 (omega arith),
+) refl
 
 escaped_high : (xs rest : List ℕ) → ((k : ℕ) → k < length xs → 128 ≤ get_or xs k 0) → 0 < length xs →
     IfOk (meaning true (xs ++ rest)) IsUtf8
@@ -77,14 +93,16 @@ escaped_char c rest h =
 ascii_char : (c : ℕ) (rest : List ℕ) (t : Bool) → c < 128 → IfOk (meaning false rest) IsUtf8 →
     IfOk (meaning true rest) IsUtf8 → IfOk (cond t (meaning true rest) (plain c (meaning false rest))) IsUtf8
 ascii_char c rest true small h k = k
-ascii_char c rest false small h k = plain_if IsUtf8 (meaning false rest) c (prefix_if (c ∷ []) (one_text c small) (meaning false rest) h)
+ascii_char c rest false small h k = plain_if IsUtf8 (meaning false rest) c
+    (prefix_if (c ∷ []) (one_text c small) (meaning false rest) h)
 
 text_char : (c : ℕ) (rest : List ℕ) → scalar c ≡ true → IfOk (meaning false rest) IsUtf8 →
     IfOk (meaning true rest) IsUtf8 → IfOk (meaning false (encode c ++ rest)) IsUtf8
 text_char c rest ok h k =
     ⊎_elim
     (λ small. rw (encode_ascii c small) (ascii_char c rest (c == 92) small h k))
-    (λ high. copied (encode c) IsUtf8 rest (high_bytes c high) (prefix_if (encode c) (IsUtf8-encode c ok) (meaning false rest) h))
+    (λ high. copied (encode c) IsUtf8 rest (high_bytes c high)
+    (prefix_if (encode c) (IsUtf8-encode c ok) (meaning false rest) h))
     (order c 128)
 
 pub both_true : (a b : Bool) → (a && b) ≡ true → (a ≡ true) × (b ≡ true)
@@ -118,5 +136,8 @@ inside_text s at n u l within front back =
     let first = get_or-drop at s 0 0 ∙ ap (λ k. get_or s k 0) (add-zero at) in
     let last = get_or-drop at s (n + 1) 0 in
     let count : at + (n + 1) - (at + 1) ≡ n = omega arith in
-    let e : take (at + (n + 1) - (at + 1)) (drop (at + 1) s) ≡ take n (drop 1 (drop at s)) = (λ i. take (count i) (sym (drop-drop 1 at s) i)) in
-    subst IsUtf8 e (IsUtf8-between s (at + 1) (at + (n + 1)) u (omega arith) (IsCharBoundary-after_ascii s at u l (omega arith)) (IsCharBoundary-before_ascii s (at + (n + 1)) (omega arith) (omega arith)))
+    let e : take (at + (n + 1) - (at + 1)) (drop (at + 1) s) ≡ take n (drop 1 (drop at s)) =
+    (λ i. take (count i) (sym (drop-drop 1 at s) i)) in
+    subst IsUtf8 e (IsUtf8-between s (at + 1) (at + (n + 1)) u (omega arith)
+    (IsCharBoundary-after_ascii s at u l (omega arith))
+    (IsCharBoundary-before_ascii s (at + (n + 1)) (omega arith) (omega arith)))

@@ -1,6 +1,8 @@
-ghost use Rattle.std.specs.Prelude.{◌≡◌, ◌≤◌, ◌<◌, ◌+◌, ◌++◌, ◌^◌, length, drop, IfOk, IfErr, OnOk, IsUtf8};
+ghost use Rattle.std.specs.Prelude.{◌≡◌, ◌≤◌, ◌<◌, ◌+◌, ◌++◌, ◌^◌, length, drop, IfOk, IfErr, OnOk};
+ghost use Rattle.std.specs.Prelude.{IsUtf8};
 ghost use Rattle.run_model.specs.Places.{place_at};
-ghost use Rattle.run_model.specs.Tokens.{deeper, joins, after, shown, ends_line, token_of, Spells, IsFirstFault};
+ghost use Rattle.run_model.specs.Tokens.{deeper, joins, after, shown, ends_line, token_of, Spells};
+ghost use Rattle.run_model.specs.Tokens.{IsFirstFault};
 
 use crate::first::first;
 use crate::place::{START, moved_over};

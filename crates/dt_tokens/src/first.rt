@@ -1,4 +1,5 @@
-ghost use Rattle.std.specs.Prelude.{◌≡◌, ◌≤◌, ◌<◌, ◌+◌, ◌∷◌, length, drop, IfOk, IsUtf8, slice_index, ◌≢◌};
+ghost use Rattle.std.specs.Prelude.{◌≡◌, ◌≤◌, ◌<◌, ◌+◌, ◌∷◌, length, drop, IfOk, IsUtf8};
+ghost use Rattle.std.specs.Prelude.{slice_index, ◌≢◌};
 ghost use Rattle.std.specs.Char.{is_ascii_digit};
 ghost use Rattle.run_model.specs.Bytes.{head_is, is_in, run};
 ghost use Rattle.run_model.specs.Signs.{sign_at};

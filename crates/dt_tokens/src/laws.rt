@@ -1,5 +1,6 @@
 ghost use Rattle.run_model.specs.TextBodies.{TextsAreBodies};
-ghost use Rattle.run_model.specs.TokenLaws.{OneAnswer, LongestSign, RunsAreLongest, BreaksLeadLines};
+ghost use Rattle.run_model.specs.TokenLaws.{OneAnswer, LongestSign, RunsAreLongest};
+ghost use Rattle.run_model.specs.TokenLaws.{BreaksLeadLines};
 
 /// A script is one list of tokens, or has one first fault, and not both.
 pub fn one_answer()

@@ -1,6 +1,7 @@
 ghost use Rattle.std.specs.Prelude.{◌≡◌, ◌≤◌, ◌<◌, ◌+◌, ◌-◌, ◌*◌, ◌^◌, length, take, drop, min};
 ghost use Rattle.run_model.specs.Bytes.{head_is};
-ghost use Rattle.run_model.specs.First.{value_after, number_at, number_len, digits_len, IsWithin, spoils_number};
+ghost use Rattle.run_model.specs.First.{value_after, number_at, number_len, digits_len, IsWithin};
+ghost use Rattle.run_model.specs.First.{spoils_number};
 
 use crate::bytes::{is_at, run_end};
 use dt_tree::{Class, First, Piece, Token};

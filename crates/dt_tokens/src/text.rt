@@ -1,4 +1,5 @@
-ghost use Rattle.std.specs.Prelude.{◌≡◌, ◌≤◌, ◌<◌, ◌+◌, length, take, drop, IfOk, IfSome, IfErr, OnOk, OnErr, IsUtf8, option_map, slice_index, false, true};
+ghost use Rattle.std.specs.Prelude.{◌≡◌, ◌≤◌, ◌<◌, ◌+◌, length, take, drop, IfOk, IfSome, IfErr};
+ghost use Rattle.std.specs.Prelude.{OnOk, OnErr, IsUtf8, option_map, slice_index, false, true};
 ghost use Rattle.run_model.specs.First.{text_len, meaning, escape, text_at, IsWithin};
 
 use crate::utf8::{inside, string_of};

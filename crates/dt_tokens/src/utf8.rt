@@ -1,4 +1,5 @@
-ghost use Rattle.std.specs.Prelude.{◌≡◌, ◌<◌, ◌+◌, length, take, drop, IsUtf8, slice_index, string_bytes};
+ghost use Rattle.std.specs.Prelude.{◌≡◌, ◌<◌, ◌+◌, length, take, drop, IsUtf8, slice_index};
+ghost use Rattle.std.specs.Prelude.{string_bytes};
 
 use dt_base::Text;
 
@@ -24,7 +25,8 @@ pub fn string_of(bytes: Vec<u8>) -> Text
     }
 }
 
-/// The text between two ASCII bytes, of which the first stands at `at`, with `n` bytes between them.
+/// The text between two ASCII bytes, of which the first stands at `at`, with `n` bytes between
+/// them.
 pub fn inside(s: &[u8], at: usize, n: usize) -> &str
     requires text { IsUtf8 s.now }
     requires at { at < length s.now }

@@ -1,4 +1,5 @@
-ghost use Rattle.std.specs.Prelude.{◌≡◌, ◌≤◌, ◌<◌, length, map, OnOk, OnErr, IfOk, IsOk, Some, None, IsErrOf, alloc_error, ◌↔◌, IsTrue};
+ghost use Rattle.std.specs.Prelude.{◌≡◌, ◌≤◌, ◌<◌, length, map, OnOk, OnErr, IfOk, IsOk, Some};
+ghost use Rattle.std.specs.Prelude.{None, IsErrOf, alloc_error, ◌↔◌, IsTrue};
 ghost use Rattle.std.specs.Option.{option_map};
 ghost use Rattle.std.specs.FinMap as finite;
 ghost use Rattle.dt_world.specs.Memory.{fails, after_read, written, unwritten};
@@ -35,14 +36,21 @@ impl Model for MemFiles {
 
     ghost coded = { mem_files_code };
 
-    ghost view = { λ m. record { files = finite.from_entries (map (λ e. (e.0, e.1.items)) m.log.items); failing = m.failing.items; calls = m.calls; read_faults = m.read_faults; write_faults = m.write_faults } };
+    ghost view = { λ m. record {
+      files = finite.from_entries (map (λ e. (e.0, e.1.items)) m.log.items);
+      failing = m.failing.items;
+      calls = m.calls;
+      read_faults = m.read_faults;
+      write_faults = m.write_faults;
+    } };
 }
 
 impl MemFiles {
     /// These files, whose calls with these numbers fail. It takes no memory. Of two files with one
     /// name the first counts.
     pub fn new(alloc: Global, files: Vec<(Text, Vec<u8>)>, failing: Vec<u64>) -> MemFiles
-        ensures files { result.files ≡ finite.from_entries (map (λ e. (e.0, e.1.items)) files.items) }
+        ensures files { result.files
+            ≡ finite.from_entries (map (λ e. (e.0, e.1.items)) files.items) }
         ensures failing { result.failing ≡ failing.items }
         ensures counts { (result.calls ≡ 0) × (result.read_faults ≡ 0) × (result.write_faults ≡ 0) }
     {
@@ -82,11 +90,14 @@ impl Files for MemFiles {
     /// A call that is to fail answers `Failed` before the name is looked at.
     fn read(&mut self, name: &str, limit: u64) -> Result<Vec<u8>, ReadFail>
         ensures after { self.new ≡ after_read self.old }
-        ensures failed { IsErrOf result ReadFail.Failed ↔ IsTrue (fails self.old.failing self.old.calls) }
+        ensures failed { IsErrOf result ReadFail.Failed
+            ↔ IsTrue (fails self.old.failing self.old.calls) }
         ensures within { IfOk result (λ v. length v.items ≤ limit) }
         ensures content { IfOk result (λ v. finite.get self.old.files name.now ≡ Some v.items) }
-        ensures absent { IsErrOf result ReadFail.Absent → finite.get self.old.files name.now ≡ None }
-        ensures too_long { IsErrOf result ReadFail.TooLong → IsLonger (Some self.old.files) name.now limit ⊥ }
+        ensures absent { IsErrOf result ReadFail.Absent
+            → finite.get self.old.files name.now ≡ None }
+        ensures too_long { IsErrOf result ReadFail.TooLong
+            → IsLonger (Some self.old.files) name.now limit ⊥ }
         ensures read_faults { self.old.read_faults ≤ self.new.read_faults }
     {
         let fails = is_failing(&self.failing, self.calls);
@@ -111,7 +122,8 @@ impl Files for MemFiles {
     fn write(&mut self, name: &str, bytes: &[u8]) -> Result<(), WriteFail>
         ensures ok { OnOk result (self.new ≡ written self.old name.now bytes.now) }
         ensures err { OnErr result (self.new ≡ unwritten self.old) }
-        ensures failed { IsErrOf result WriteFail.Failed ↔ IsTrue (fails self.old.failing self.old.calls) }
+        ensures failed { IsErrOf result WriteFail.Failed
+            ↔ IsTrue (fails self.old.failing self.old.calls) }
         ensures write_faults { self.old.write_faults ≤ self.new.write_faults }
     {
         let fails = is_failing(&self.failing, self.calls);

@@ -1,4 +1,5 @@
-ghost use Rattle.std.specs.Prelude.{◌≡◌, ◌≤◌, ◌+◌, ◌/◌, ◌++◌, take, length, OnOk, OnErr, IsOk, Some, [], IsErrOf, IsTrue, alloc_error};
+ghost use Rattle.std.specs.Prelude.{◌≡◌, ◌≤◌, ◌+◌, ◌/◌, ◌++◌, take, length, OnOk, OnErr, IsOk};
+ghost use Rattle.std.specs.Prelude.{Some, [], IsErrOf, IsTrue, alloc_error};
 ghost use Rattle.dt_world.specs.Causes.{counted};
 ghost use Rattle.dt_world.specs.Memory.{fails};
 
@@ -25,7 +26,13 @@ impl Model for MemSink {
 
     ghost Value = { MemSinkSeen };
 
-    ghost view = { λ s. record { bytes = s.bytes.items; failing = s.failing.items; puts = s.puts; faults = s.faults; spare = vec_capacity s.bytes - vec_len s.bytes } };
+    ghost view = { λ s. record {
+      bytes = s.bytes.items;
+      failing = s.failing.items;
+      puts = s.puts;
+      faults = s.faults;
+      spare = vec_capacity s.bytes - vec_len s.bytes;
+    } };
 }
 
 impl MemSink {
@@ -46,7 +53,8 @@ impl MemSink {
     /// Makes room for `n` more bytes, so that puts of no more than these take no memory.
     pub fn reserve(&mut self, n: usize) -> Result<(), AllocError>
         ensures room { OnOk result (n ≤ self.new.spare) }
-        ensures same { (self.new.bytes ≡ self.old.bytes) × (self.new.failing ≡ self.old.failing) × (self.new.puts ≡ self.old.puts) × (self.new.faults ≡ self.old.faults) }
+        ensures same { (self.new.bytes ≡ self.old.bytes) × (self.new.failing ≡ self.old.failing)
+            × (self.new.puts ≡ self.old.puts) × (self.new.faults ≡ self.old.faults) }
     {
         self.bytes.reserve(n)
     }
@@ -67,15 +75,22 @@ impl Sink for MemSink {
     /// A put that is to fail appends the first half of its piece, rounded down. A put of no more
     /// bytes than there is room for takes no memory.
     fn put(&mut self, piece: &[u8]) -> Result<(), WriteFail>
-        ensures ok { OnOk result ((self.new.bytes ≡ self.old.bytes ++ piece.now) × (self.new.faults ≡ self.old.faults)) }
-        ensures failed { IsErrOf result WriteFail.Failed → (self.new.bytes ≡ self.old.bytes ++ take (length piece.now / 2) piece.now) × (self.new.faults ≡ counted self.old.faults) }
-        ensures no_memory { IsErrOf result (WriteFail.NoMemory alloc_error) → (self.new.bytes ≡ self.old.bytes) × (self.new.faults ≡ self.old.faults) }
+        ensures ok { OnOk result ((self.new.bytes ≡ self.old.bytes ++ piece.now)
+            × (self.new.faults ≡ self.old.faults)) }
+        ensures failed { IsErrOf result WriteFail.Failed
+            → (self.new.bytes ≡ self.old.bytes ++ take (length piece.now / 2) piece.now)
+            × (self.new.faults ≡ counted self.old.faults) }
+        ensures no_memory { IsErrOf result (WriteFail.NoMemory alloc_error)
+            → (self.new.bytes ≡ self.old.bytes) × (self.new.faults ≡ self.old.faults) }
         ensures failing { IsTrue (fails self.old.failing self.old.puts) → IsOk result → ⊥ }
-        ensures not_failing { IsErrOf result WriteFail.Failed → IsTrue (fails self.old.failing self.old.puts) }
+        ensures not_failing { IsErrOf result WriteFail.Failed
+            → IsTrue (fails self.old.failing self.old.puts) }
         ensures faults { self.old.faults ≤ self.new.faults }
-        ensures room { length piece.now ≤ self.old.spare → IsErrOf result (WriteFail.NoMemory alloc_error) → ⊥ }
+        ensures room { length piece.now ≤ self.old.spare
+            → IsErrOf result (WriteFail.NoMemory alloc_error) → ⊥ }
         ensures spare { self.old.spare ≤ self.new.spare + length piece.now }
-        ensures number { (self.new.puts ≡ counted self.old.puts) × (self.new.failing ≡ self.old.failing) }
+        ensures number { (self.new.puts ≡ counted self.old.puts)
+            × (self.new.failing ≡ self.old.failing) }
     {
         let fails = is_failing(&self.failing, self.puts);
         self.puts = raised(self.puts);

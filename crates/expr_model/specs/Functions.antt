@@ -23,11 +23,15 @@ use Rattle.dt_model.specs.Operations.{is_logical, chosen}
 use Rattle.dt_model.specs.Table.{PlainTable}
 use Rattle.dt_model.specs.Vector.{Vector}
 use Rattle.func_table.specs.declared.func.Func.{Func}
-use Rattle.func_table.specs.declared.func.Func.TheVariants.{IsNa, Fifelse, AsLogical, AsInteger, AsCharacter, Sum, Min, Max, Any, All, First, Last, Length, Nrow, Ncol, Names}
+use Rattle.func_table.specs.declared.func.Func.TheVariants.{IsNa, Fifelse, AsLogical, AsInteger, AsCharacter, Sum}
+use Rattle.func_table.specs.declared.func.Func.TheVariants.{Min, Max, Any, All, First, Last, Length, Nrow, Ncol}
+use Rattle.func_table.specs.declared.func.Func.TheVariants.{Names}
 use Rattle.func_table.specs.declared.slot.Slot.{Slot}
 use Rattle.func_table.specs.declared.slot.Slot.TheVariants.{Given, Flag, Absent}
 use Rattle.vector_model.specs.Then.{then_do}
-use Rattle.vector_model.specs.Functions.{Valued, sum_type, sum_value, min_type, min_value, max_type, max_value, any_type, any_value, all_type, all_value, first_type, first_value, last_type, last_value, length_type, length_value}
+use Rattle.vector_model.specs.Functions.{Valued, sum_type, sum_value, min_type, min_value, max_type, max_value}
+use Rattle.vector_model.specs.Functions.{any_type, any_value, all_type, all_value, first_type, first_value, last_type}
+use Rattle.vector_model.specs.Functions.{last_value, length_type, length_value}
 use Rattle.expr_model.specs.Operators.{op_result, sign_type, sign_value}
 use Rattle.expr_model.specs.Surroundings.{integer}
 use Rattle.vector_model.specs.Faults.{unbuilt}

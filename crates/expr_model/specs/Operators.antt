@@ -7,7 +7,8 @@
 --   tail_value o a b     the vector that it gives for two vectors, or its first fault
 --   range a b            `a:b`: each whole number from the one to the other
 --   unary_word o, sign_type o t, sign_value o a     the same for `-` and `!` before a value
-use Rattle.std.specs.Prelude.{ℕ, ◌+◌, ◌==◌, ℤ, pos, ◌+ℤ◌, ◌-ℤ◌, unsigned_abs, nat_lt, if◌then◌else◌, List, [], length, map, Option, None, Some, Result, Ok, Err, codes}
+use Rattle.std.specs.Prelude.{ℕ, ◌+◌, ◌==◌, ℤ, pos, ◌+ℤ◌, ◌-ℤ◌, unsigned_abs, nat_lt, if◌then◌else◌, List, [], length}
+use Rattle.std.specs.Prelude.{map, Option, None, Some, Result, Ok, Err, codes}
 use Rattle.std.specs.Int.{is_negative}
 use Rattle.std.specs.List.{range_with_len}
 use Rattle.dt_base.specs.declared.cell.Cell.{Cell}
@@ -22,7 +23,8 @@ use Rattle.dt_base.specs.declared.operators.Op.{Op}
 use Rattle.dt_base.specs.declared.operators.Op.TheVariants as op
 use Rattle.dt_base.specs.declared.operators.UnOp.{UnOp}
 use Rattle.dt_base.specs.declared.operators.UnOp.TheVariants as un
-use Rattle.dt_model.specs.Operations.{OpFault, BadType, Length, Overflow, TooManyRows, op_type, unary_type, arithmetic_type, binary, unary, contained, number}
+use Rattle.dt_model.specs.Operations.{OpFault, BadType, Length, Overflow, TooManyRows, op_type, unary_type}
+use Rattle.dt_model.specs.Operations.{arithmetic_type, binary, unary, contained, number}
 use Rattle.dt_model.specs.Vector.{Vector, cell_at}
 use Rattle.dt_tree.specs.declared.tree.BinOp.{BinOp}
 use Rattle.dt_tree.specs.declared.tree.BinOp.TheVariants.{Arith, In, Range}

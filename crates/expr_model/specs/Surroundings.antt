@@ -13,7 +13,8 @@
 --   special_vector s p   what a special name gives
 --   name_vector s q      what the name q gives where a vector is wanted, or its fault
 --   var_table q b        the table that a script's name gives where one is wanted, or its fault
-use Rattle.std.specs.Prelude.{ℕ, ◌+◌, ◌==◌, pos, Bool, true, false, if◌then◌else◌, List, [], ◌∷◌, length, map, Option, None, Some, Result, Ok, Err, codes, slice_get}
+use Rattle.std.specs.Prelude.{ℕ, ◌+◌, ◌==◌, pos, Bool, true, false, if◌then◌else◌, List, [], ◌∷◌, length, map, Option}
+use Rattle.std.specs.Prelude.{None, Some, Result, Ok, Err, codes, slice_get}
 use Rattle.dt_base.specs.declared.cell.Cell.{Cell}
 use Rattle.dt_base.specs.declared.cell.Cell.TheVariants as is
 use Rattle.dt_base.specs.declared.cell.ColType.{ColType}
@@ -46,7 +47,7 @@ Vars = List ℕ → Option Var
 -- The surroundings of an expression: whether it stands in a bracket; the columns of its rows; the
 -- columns of the one row that all rows share, as a group's; where each row stands in the table, counted
 -- from 0, or none for a row of NA; the number of rows; the number of the group, counted from 1, or 0
--- where there are no groups; and the script's names.
+-- where there are no groups; which columns of the rows are those of `.SD`; and the script's names.
 pub record Env : Type 0 where
   pub inside : Bool
   pub rows : Columns
@@ -54,6 +55,7 @@ pub record Env : Type 0 where
   pub places : Places
   pub count : ℕ
   pub group : ℕ
+  pub sd : List ℕ
   pub vars : Vars
 
 -- a vector of one cell
@@ -83,12 +85,29 @@ no_columns = record { names = []; vectors = [] }
 
 -- outside brackets there are the script's names alone
 abbrev pub outside : Vars → Env
-outside vars = record { inside = false; rows = no_columns; single = no_columns; places = []; count = 0; group = 0; vars = vars }
+outside vars = record {
+  inside = false;
+  rows = no_columns;
+  single = no_columns;
+  places = [];
+  count = 0;
+  group = 0;
+  sd = [];
+  vars = vars;
+}
 
 -- in a bracket without groups there are columns, whose rows stand at these places of the table
 abbrev pub in_rows : Columns → Places → Vars → Env
-in_rows t places vars =
-    record { inside = true; rows = t; single = no_columns; places = places; count = length places; group = 0; vars = vars }
+in_rows t places vars = record {
+  inside = true;
+  rows = t;
+  single = no_columns;
+  places = places;
+  count = length places;
+  group = 0;
+  sd = [];
+  vars = vars;
+}
 
 -- ---- Columns and the script's names
 

@@ -1,21 +1,25 @@
 -- The tables of calls.
---   all_funcs       the functions and commands that are served
---   word_of f       the name of f
+--   all_funcs       the functions and commands that have a row
+--   row_of f        all that is told of f:
+--   word_of f         its name
+--   kind_of f         whether f gives a table, is a command, gives a vector, or tells of a table
+--   arity_of f        how its arguments are bound
+--   formals_of f      its formals, in order
 --   func_of w       the function of the name w
---   kind_of f       whether f gives a table, is a command, gives a vector, or tells of a table
---   arity_of f      how its arguments are bound
---   formals_of f    its formals, in order
 --   name_of p       the name of a formal
 --   is_needed p     a call lacks something without it
 --   is_flag p       it is TRUE or FALSE, as written
 --   is_later w      the language has a call of the name w, and nothing serves it yet
 --   is_list w       w names the list of a bracket, `.( )` or `list( )`
 --   later_of w      what a call of w is, where no function of that name is served
-use Rattle.std.specs.Prelude.{◌||◌, Bool, true, false, cond, List, ℕ, [], ◌∷◌, Option, None, Some, codes}
-use Rattle.std.specs.List.{list_any}
+use Rattle.std.specs.Prelude.{◌||◌, Bool, true, false, cond, List, ℕ, [], ◌∷◌, map, Option, Some, is_some, codes}
 use Rattle.std.specs.Str.{bytes_eq}
 use Rattle.func_table.specs.declared.func.Func.{Func}
-use Rattle.func_table.specs.declared.func.Func.TheVariants.{DataTable, Fread, Copy, Library, Print, Fwrite, Rm, Combine, IsNa, Fifelse, AsLogical, AsInteger, AsCharacter, Sum, Min, Max, Any, All, First, Last, Length, Nrow, Ncol, Names}
+use Rattle.func_table.specs.declared.func.Func.TheVariants.{DataTable, Fread, Copy, Library, Print, Fwrite, Rm}
+use Rattle.func_table.specs.declared.func.Func.TheVariants.{Set, SetNames}
+use Rattle.func_table.specs.declared.func.Func.TheVariants.{Combine, IsNa, Fifelse, AsLogical, AsInteger, AsCharacter}
+use Rattle.func_table.specs.declared.func.Func.TheVariants.{Sum, Min, Max, Any, All, First, Last, Length}
+use Rattle.func_table.specs.declared.func.Func.TheVariants.{Nrow, Ncol, Names}
 use Rattle.func_table.specs.declared.func.Kind.{Kind}
 use Rattle.func_table.specs.declared.func.Kind.TheVariants as kind
 use Rattle.func_table.specs.declared.func.Arity.{Arity}
@@ -24,89 +28,74 @@ use Rattle.func_table.specs.declared.func.Later.{Later}
 use Rattle.func_table.specs.declared.func.Later.TheVariants as later
 use Rattle.func_table.specs.declared.formal.Formal.{Formal}
 use Rattle.func_table.specs.declared.formal.Formal.TheVariants as formal
+use Rattle.func_table.specs.Rows.{looked}
 
--- the functions and commands that are served: by statements, then in expressions
+-- ---- Functions and commands
+
+-- the functions and commands: of statements, then of expressions
 abbrev pub all_funcs : List Func
 all_funcs =
-    DataTable ∷ Fread ∷ Copy ∷ Library ∷ Print ∷ Fwrite ∷ Rm
+    DataTable ∷ Fread ∷ Copy ∷ Library ∷ Print ∷ Fwrite ∷ Rm ∷ Set ∷ SetNames
     ∷ Combine ∷ IsNa ∷ Fifelse ∷ AsLogical ∷ AsInteger ∷ AsCharacter
     ∷ Sum ∷ Min ∷ Max ∷ Any ∷ All ∷ First ∷ Last ∷ Length
     ∷ Nrow ∷ Ncol ∷ Names ∷ []
 
--- their names
-abbrev pub word_of : Func → List ℕ
-word_of DataTable = codes "data.table"
-word_of Fread = codes "fread"
-word_of Copy = codes "copy"
-word_of Library = codes "library"
-word_of Print = codes "print"
-word_of Fwrite = codes "fwrite"
-word_of Rm = codes "rm"
-word_of Combine = codes "c"
-word_of IsNa = codes "is.na"
-word_of Fifelse = codes "fifelse"
-word_of AsLogical = codes "as.logical"
-word_of AsInteger = codes "as.integer"
-word_of AsCharacter = codes "as.character"
-word_of Sum = codes "sum"
-word_of Min = codes "min"
-word_of Max = codes "max"
-word_of Any = codes "any"
-word_of All = codes "all"
-word_of First = codes "first"
-word_of Last = codes "last"
-word_of Length = codes "length"
-word_of Nrow = codes "nrow"
-word_of Ncol = codes "ncol"
-word_of Names = codes "names"
+-- what is told of a function; its formals stand in the order in which arguments are looked at
+pub record Row : Type 0 where
+  pub word : List ℕ
+  pub kind : Kind
+  pub arity : Arity
+  pub formals : List Formal
 
--- the first of these with the name
-abbrev pub looked : List ℕ → List Func → Option Func
-looked w [] = None
-looked w (f ∷ rest) = cond (bytes_eq w (word_of f)) (Some f) (looked w rest)
-
-abbrev pub func_of : List ℕ → Option Func
-func_of w = looked w all_funcs
-
--- three give a new table, four are whole statements, three tell of a table, and the others give a
--- vector from vectors
-abbrev pub kind_of : Func → Kind
-kind_of DataTable = kind.Table
-kind_of Fread = kind.Table
-kind_of Copy = kind.Table
-kind_of Library = kind.Command
-kind_of Print = kind.Command
-kind_of Fwrite = kind.Command
-kind_of Rm = kind.Command
-kind_of Nrow = kind.Description
-kind_of Ncol = kind.Description
-kind_of Names = kind.Description
-kind_of _ = kind.Vector
+-- a call whose arguments are bound to formals
+abbrev pub fixed : List ℕ → Kind → List Formal → Row
+fixed w k ps = record { word = w; kind = k; arity = arity.Fixed; formals = ps }
 
 -- the arguments of `data.table` are columns, and those of `c` have no names
-abbrev pub arity_of : Func → Arity
-arity_of DataTable = arity.Columns
-arity_of Combine = arity.Unnamed
-arity_of _ = arity.Fixed
+abbrev pub row_of : Func → Row
+row_of DataTable = record { word = codes "data.table"; kind = kind.Table; arity = arity.Columns; formals = [] }
+row_of Fread = fixed (codes "fread") kind.Table (formal.File ∷ [])
+row_of Copy = fixed (codes "copy") kind.Table (formal.Table ∷ [])
+row_of Library = fixed (codes "library") kind.Command (formal.Package ∷ [])
+row_of Print = fixed (codes "print") kind.Command (formal.Value ∷ [])
+row_of Fwrite = fixed (codes "fwrite") kind.Command (formal.Table ∷ formal.File ∷ [])
+row_of Rm = fixed (codes "rm") kind.Command (formal.Name ∷ [])
+row_of Set = fixed (codes "set") kind.Command (formal.D ∷ formal.I ∷ formal.J ∷ formal.NewValue ∷ [])
+row_of SetNames = fixed (codes "setnames") kind.Command (formal.D ∷ formal.Old ∷ formal.New ∷ [])
+row_of Combine = record { word = codes "c"; kind = kind.Vector; arity = arity.Unnamed; formals = [] }
+row_of IsNa = fixed (codes "is.na") kind.Vector (formal.X ∷ [])
+row_of Fifelse = fixed (codes "fifelse") kind.Vector (formal.Test ∷ formal.Yes ∷ formal.No ∷ [])
+row_of AsLogical = fixed (codes "as.logical") kind.Vector (formal.X ∷ [])
+row_of AsInteger = fixed (codes "as.integer") kind.Vector (formal.X ∷ [])
+row_of AsCharacter = fixed (codes "as.character") kind.Vector (formal.X ∷ [])
+row_of Sum = fixed (codes "sum") kind.Vector (formal.X ∷ formal.NaRm ∷ [])
+row_of Min = fixed (codes "min") kind.Vector (formal.X ∷ formal.NaRm ∷ [])
+row_of Max = fixed (codes "max") kind.Vector (formal.X ∷ formal.NaRm ∷ [])
+row_of Any = fixed (codes "any") kind.Vector (formal.X ∷ [])
+row_of All = fixed (codes "all") kind.Vector (formal.X ∷ [])
+row_of First = fixed (codes "first") kind.Vector (formal.X ∷ [])
+row_of Last = fixed (codes "last") kind.Vector (formal.X ∷ [])
+row_of Length = fixed (codes "length") kind.Vector (formal.X ∷ [])
+row_of Nrow = fixed (codes "nrow") kind.Description (formal.D ∷ [])
+row_of Ncol = fixed (codes "ncol") kind.Description (formal.D ∷ [])
+row_of Names = fixed (codes "names") kind.Description (formal.D ∷ [])
 
--- the formals, in the order in which arguments are looked at
+abbrev pub word_of : Func → List ℕ
+word_of f = (row_of f).word
+
+abbrev pub kind_of : Func → Kind
+kind_of f = (row_of f).kind
+
+abbrev pub arity_of : Func → Arity
+arity_of f = (row_of f).arity
+
 abbrev pub formals_of : Func → List Formal
-formals_of DataTable = []
-formals_of Fread = formal.File ∷ []
-formals_of Copy = formal.Table ∷ []
-formals_of Library = formal.Package ∷ []
-formals_of Print = formal.Value ∷ []
-formals_of Fwrite = formal.Table ∷ formal.File ∷ []
-formals_of Rm = formal.Name ∷ []
-formals_of Combine = []
-formals_of Fifelse = formal.Test ∷ formal.Yes ∷ formal.No ∷ []
-formals_of Sum = formal.X ∷ formal.NaRm ∷ []
-formals_of Min = formal.X ∷ formal.NaRm ∷ []
-formals_of Max = formal.X ∷ formal.NaRm ∷ []
-formals_of Nrow = formal.D ∷ []
-formals_of Ncol = formal.D ∷ []
-formals_of Names = formal.D ∷ []
-formals_of _ = formal.X ∷ []
+formals_of f = (row_of f).formals
+
+abbrev pub func_of : List ℕ → Option Func
+func_of w = looked w (map (λ f. (word_of f, f)) all_funcs)
+
+-- ---- Formals
 
 -- The name of a formal. That of `print` has none, so its name is empty, as no name of a script is.
 abbrev pub name_of : Formal → List ℕ
@@ -121,10 +110,16 @@ name_of formal.Yes = codes "yes"
 name_of formal.No = codes "no"
 name_of formal.NaRm = codes "na.rm"
 name_of formal.D = codes "D"
+name_of formal.I = codes "i"
+name_of formal.J = codes "j"
+name_of formal.NewValue = codes "value"
+name_of formal.Old = codes "old"
+name_of formal.New = codes "new"
 
--- `na.rm` may be left out
+-- `na.rm` and the `i` of `set` may be left out
 abbrev pub is_needed : Formal → Bool
 is_needed formal.NaRm = false
+is_needed formal.I = false
 is_needed _ = true
 
 -- `na.rm` is TRUE or FALSE, as written
@@ -132,25 +127,24 @@ abbrev pub is_flag : Formal → Bool
 is_flag formal.NaRm = true
 is_flag _ = false
 
--- functions that give a vector and that nothing serves yet
-abbrev pub later_vectors : List (List ℕ)
-later_vectors = codes "cumsum" ∷ codes "shift" ∷ codes "rleid" ∷ codes "frank" ∷ []
+-- ---- Calls that nothing serves yet
 
--- functions that give a table, and words that stand only where a rule of their own says
-abbrev pub later_places : List (List ℕ)
-later_places =
-    codes "melt" ∷ codes "dcast" ∷ codes "foverlaps"
-    ∷ codes "key" ∷ codes "indices" ∷ codes "lapply" ∷ codes "order" ∷ codes "J" ∷ []
-
--- whole statements
-abbrev pub later_commands : List (List ℕ)
-later_commands =
-    codes "set" ∷ codes "setkey" ∷ codes "setindex" ∷ codes "setorder" ∷ codes "setnames" ∷ codes "options" ∷ []
+-- functions that give a vector; functions that give a table, and words that stand only where a rule of
+-- their own says; whole statements
+abbrev pub later_rows : List (List ℕ × Later)
+later_rows =
+    (codes "cumsum", later.Vector) ∷ (codes "shift", later.Vector) ∷ (codes "rleid", later.Vector)
+    ∷ (codes "frank", later.Vector)
+    ∷ (codes "melt", later.NoVector) ∷ (codes "dcast", later.NoVector) ∷ (codes "foverlaps", later.NoVector)
+    ∷ (codes "key", later.NoVector) ∷ (codes "indices", later.NoVector) ∷ (codes "lapply", later.NoVector)
+    ∷ (codes "order", later.NoVector) ∷ (codes "J", later.NoVector)
+    ∷ (codes "set", later.Command) ∷ (codes "setkey", later.Command) ∷ (codes "setindex", later.Command)
+    ∷ (codes "setorder", later.Command) ∷ (codes "setnames", later.Command) ∷ (codes "options", later.Command)
+    ∷ []
 
 -- the language has a call of this name, and nothing serves it yet
 abbrev pub is_later : List ℕ → Bool
-is_later w =
-    list_any (bytes_eq w) later_vectors || (list_any (bytes_eq w) later_places || list_any (bytes_eq w) later_commands)
+is_later w = is_some (looked w later_rows)
 
 -- the list of a bracket, under both of its names
 abbrev pub is_list : List ℕ → Bool
@@ -158,7 +152,4 @@ is_list w = bytes_eq w (codes ".") || bytes_eq w (codes "list")
 
 -- what a call of this name is, where nothing serves it as a function; a list stands in brackets alone
 abbrev pub later_of : List ℕ → Option Later
-later_of w =
-    cond (list_any (bytes_eq w) later_vectors) (Some later.Vector)
-    (cond (is_list w || list_any (bytes_eq w) later_places) (Some later.NoVector)
-    (cond (list_any (bytes_eq w) later_commands) (Some later.Command) None))
+later_of w = cond (is_list w) (Some later.NoVector) (looked w later_rows)

@@ -1,20 +1,22 @@
 -- The names that have a meaning of their own in a bracket, and the arguments of brackets.
 --   special_of w           the special name that w is, if it is one
 --   is_later_special w     it is one that nothing serves yet
---   is_bracket_argument w  brackets have an argument of this name; none is served yet
-use Rattle.std.specs.Prelude.{Bool, true, false, List, ℕ, [], ◌∷◌, cond, Option, None, Some, codes}
-use Rattle.std.specs.List.{list_any}
-use Rattle.std.specs.Str.{bytes_eq}
+--   argument_of w          the argument of brackets that has the name w, if there is one
+--   is_bracket_argument w  there is one
+use Rattle.std.specs.Prelude.{Bool, true, false, List, ℕ, [], ◌∷◌, Option, Some, is_some, codes}
+use Rattle.func_table.specs.declared.argument.Argument.{Argument}
+use Rattle.func_table.specs.declared.argument.Argument.TheVariants as argument
 use Rattle.func_table.specs.declared.special.Special.{Special}
 use Rattle.func_table.specs.declared.special.Special.TheVariants.{Count, Places, Group, Rows}
+use Rattle.func_table.specs.Rows.{looked}
 
--- `.N`, `.I`, `.GRP` and `.SD`
+-- ---- Special names
+
+abbrev pub special_rows : List (List ℕ × Special)
+special_rows = (codes ".N", Count) ∷ (codes ".I", Places) ∷ (codes ".GRP", Group) ∷ (codes ".SD", Rows) ∷ []
+
 abbrev pub special_of : List ℕ → Option Special
-special_of w =
-    cond (bytes_eq w (codes ".N")) (Some Count)
-    (cond (bytes_eq w (codes ".I")) (Some Places)
-    (cond (bytes_eq w (codes ".GRP")) (Some Group)
-    (cond (bytes_eq w (codes ".SD")) (Some Rows) None)))
+special_of w = looked w special_rows
 
 -- `.GRP` and `.SD` are not served yet
 abbrev pub is_later_kind : Option Special → Bool
@@ -25,11 +27,17 @@ is_later_kind _ = false
 abbrev pub is_later_special : List ℕ → Bool
 is_later_special w = is_later_kind (special_of w)
 
--- the arguments that a bracket may have
-abbrev pub bracket_arguments : List (List ℕ)
-bracket_arguments =
-    codes "by" ∷ codes "keyby" ∷ codes "on" ∷ codes "mult" ∷ codes "nomatch"
-    ∷ codes "roll" ∷ codes "rollends" ∷ codes "allow.cartesian" ∷ codes ".SDcols" ∷ []
+-- ---- The arguments that a bracket may have
+
+abbrev pub argument_rows : List (List ℕ × Argument)
+argument_rows =
+    (codes "by", argument.By) ∷ (codes "keyby", argument.Keyby) ∷ (codes "on", argument.On)
+    ∷ (codes "mult", argument.Mult) ∷ (codes "nomatch", argument.NoMatch)
+    ∷ (codes "roll", argument.Roll) ∷ (codes "rollends", argument.RollEnds)
+    ∷ (codes "allow.cartesian", argument.Cartesian) ∷ (codes ".SDcols", argument.SdCols) ∷ []
+
+abbrev pub argument_of : List ℕ → Option Argument
+argument_of w = looked w argument_rows
 
 abbrev pub is_bracket_argument : List ℕ → Bool
-is_bracket_argument w = list_any (bytes_eq w) bracket_arguments
+is_bracket_argument w = is_some (argument_of w)

@@ -18,32 +18,34 @@ pub enum Formal {
     NaRm,
     /// A name that is bound to a table.
     D,
+    /// The rows of `set`.
+    I,
+    /// The columns of `set`.
+    J,
+    /// The argument of `set` that has the name `value`.
+    NewValue,
+    Old,
+    New,
 }
+
+/// The names of the arguments, in the order of the variants.
+static NAMES: [&str; 16] = [
+    "file", "name", "package", "table", "", "x", "test", "yes", "no", "na.rm", "D", "i", "j",
+    "value", "old", "new",
+];
 
 /// The name of the argument. It is empty where no script can name it.
 pub fn formal_word(f: Formal) -> &'static str
     ensures { result.now ≡ name_of f }
 {
-    match f {
-        Formal::File => "file",
-        Formal::Name => "name",
-        Formal::Package => "package",
-        Formal::Table => "table",
-        Formal::Value => "",
-        Formal::X => "x",
-        Formal::Test => "test",
-        Formal::Yes => "yes",
-        Formal::No => "no",
-        Formal::NaRm => "na.rm",
-        Formal::D => "D",
-    }
+    NAMES[f as usize]
 }
 
 /// Whether a call lacks something without this argument.
 pub fn is_needed(f: Formal) -> bool
     ensures { result ≡ is_needed f }
 {
-    f != Formal::NaRm
+    f != Formal::NaRm && f != Formal::I
 }
 
 /// Whether the argument is a flag: TRUE or FALSE, as written.

@@ -1,9 +1,12 @@
 ghost use Rattle.std.specs.Prelude.{◌≡◌};
-ghost use Rattle.func_table.specs.Calls.{func_of, word_of, kind_of, arity_of, formals_of, is_later, is_list, later_of};
+ghost use Rattle.func_table.specs.Calls.{arity_of, formals_of, func_of, is_later, is_list, kind_of};
+ghost use Rattle.func_table.specs.Calls.{later_of, word_of};
 
 use crate::Formal;
+use crate::rows::named;
 
-/// A function or command that is served, by statements or in expressions.
+/// A function or command that has a row of its own. `is_later` tells which of them nothing serves
+/// yet.
 #[derive(Clone, Copy)]
 pub enum Func {
     DataTable,
@@ -13,6 +16,9 @@ pub enum Func {
     Print,
     Fwrite,
     Rm,
+    Set,
+    /// `setnames`
+    SetNames,
     /// `c`
     Combine,
     /// `is.na`
@@ -35,8 +41,8 @@ pub enum Func {
     Names,
 }
 
-/// What a call is: it gives a new table, it is a whole statement, it gives a vector from vectors, or
-/// it gives a vector that tells of a table.
+/// What a call is: it gives a new table, it is a whole statement, it gives a vector from vectors,
+/// or it gives a vector that tells of a table.
 #[derive(Clone, Copy, PartialEq, Eq)]
 pub enum Kind {
     Table,
@@ -45,8 +51,8 @@ pub enum Kind {
     Description,
 }
 
-/// How arguments are bound: to formals; one or more of them as columns, whose names are free; or one
-/// or more of them, which have no names.
+/// How arguments are bound: to formals; one or more of them as columns, whose names are free; or
+/// one or more of them, which have no names.
 #[derive(Clone, Copy)]
 pub enum Arity {
     Fixed,
@@ -54,8 +60,8 @@ pub enum Arity {
     Unnamed,
 }
 
-/// What a call is that the language has and nothing serves yet: it gives a vector; it gives none, or
-/// stands only where a rule of its own says; or it is a whole statement.
+/// What a call is that the language has and nothing serves yet: it gives a vector; it gives none,
+/// or stands only where a rule of its own says; or it is a whole statement.
 #[derive(Clone, Copy)]
 pub enum Later {
     Vector,
@@ -63,82 +69,116 @@ pub enum Later {
     Command,
 }
 
-/// The function of this name, where one is served.
+/// The functions by their words, in the order of the variants.
+static FUNCS: [(&str, Func); 26] = [
+    ("data.table", Func::DataTable),
+    ("fread", Func::Fread),
+    ("copy", Func::Copy),
+    ("library", Func::Library),
+    ("print", Func::Print),
+    ("fwrite", Func::Fwrite),
+    ("rm", Func::Rm),
+    ("set", Func::Set),
+    ("setnames", Func::SetNames),
+    ("c", Func::Combine),
+    ("is.na", Func::IsNa),
+    ("fifelse", Func::Fifelse),
+    ("as.logical", Func::AsLogical),
+    ("as.integer", Func::AsInteger),
+    ("as.character", Func::AsCharacter),
+    ("sum", Func::Sum),
+    ("min", Func::Min),
+    ("max", Func::Max),
+    ("any", Func::Any),
+    ("all", Func::All),
+    ("first", Func::First),
+    ("last", Func::Last),
+    ("length", Func::Length),
+    ("nrow", Func::Nrow),
+    ("ncol", Func::Ncol),
+    ("names", Func::Names),
+];
+
+/// Their formals, in the same order and in that in which arguments are looked at.
+static FORMALS: [&[Formal]; 26] = [
+    &[], // data.table
+    &[Formal::File], // fread
+    &[Formal::Table], // copy
+    &[Formal::Package], // library
+    &[Formal::Value], // print
+    &[Formal::Table, Formal::File], // fwrite
+    &[Formal::Name], // rm
+    &[Formal::D, Formal::I, Formal::J, Formal::NewValue], // set
+    &[Formal::D, Formal::Old, Formal::New], // setnames
+    &[], // c
+    &[Formal::X], // is.na
+    &[Formal::Test, Formal::Yes, Formal::No], // fifelse
+    &[Formal::X], // as.logical
+    &[Formal::X], // as.integer
+    &[Formal::X], // as.character
+    &[Formal::X, Formal::NaRm], // sum
+    &[Formal::X, Formal::NaRm], // min
+    &[Formal::X, Formal::NaRm], // max
+    &[Formal::X], // any
+    &[Formal::X], // all
+    &[Formal::X], // first
+    &[Formal::X], // last
+    &[Formal::X], // length
+    &[Formal::D], // nrow
+    &[Formal::D], // ncol
+    &[Formal::D], // names
+];
+
+/// The calls that nothing serves yet, with what they are.
+static LATER: [(&str, Later); 18] = [
+    ("cumsum", Later::Vector),
+    ("shift", Later::Vector),
+    ("rleid", Later::Vector),
+    ("frank", Later::Vector),
+    ("melt", Later::NoVector),
+    ("dcast", Later::NoVector),
+    ("foverlaps", Later::NoVector),
+    ("key", Later::NoVector),
+    ("indices", Later::NoVector),
+    ("lapply", Later::NoVector),
+    ("order", Later::NoVector),
+    ("J", Later::NoVector),
+    ("set", Later::Command),
+    ("setkey", Later::Command),
+    ("setindex", Later::Command),
+    ("setorder", Later::Command),
+    ("setnames", Later::Command),
+    ("options", Later::Command),
+];
+
+/// The function of this name, where there is one.
 pub fn func_named(name: &str) -> Option<Func>
     ensures { result ≡ func_of name.now }
 {
-    match name {
-        "data.table" => Some(Func::DataTable),
-        "fread" => Some(Func::Fread),
-        "copy" => Some(Func::Copy),
-        "library" => Some(Func::Library),
-        "print" => Some(Func::Print),
-        "fwrite" => Some(Func::Fwrite),
-        "rm" => Some(Func::Rm),
-        "c" => Some(Func::Combine),
-        "is.na" => Some(Func::IsNa),
-        "fifelse" => Some(Func::Fifelse),
-        "as.logical" => Some(Func::AsLogical),
-        "as.integer" => Some(Func::AsInteger),
-        "as.character" => Some(Func::AsCharacter),
-        "sum" => Some(Func::Sum),
-        "min" => Some(Func::Min),
-        "max" => Some(Func::Max),
-        "any" => Some(Func::Any),
-        "all" => Some(Func::All),
-        "first" => Some(Func::First),
-        "last" => Some(Func::Last),
-        "length" => Some(Func::Length),
-        "nrow" => Some(Func::Nrow),
-        "ncol" => Some(Func::Ncol),
-        "names" => Some(Func::Names),
-        _ => None,
-    }
+    named(&FUNCS, name)
 }
 
 /// The name of a function.
 pub fn func_word(f: Func) -> &'static str
     ensures { result.now ≡ word_of f }
 {
-    match f {
-        Func::DataTable => "data.table",
-        Func::Fread => "fread",
-        Func::Copy => "copy",
-        Func::Library => "library",
-        Func::Print => "print",
-        Func::Fwrite => "fwrite",
-        Func::Rm => "rm",
-        Func::Combine => "c",
-        Func::IsNa => "is.na",
-        Func::Fifelse => "fifelse",
-        Func::AsLogical => "as.logical",
-        Func::AsInteger => "as.integer",
-        Func::AsCharacter => "as.character",
-        Func::Sum => "sum",
-        Func::Min => "min",
-        Func::Max => "max",
-        Func::Any => "any",
-        Func::All => "all",
-        Func::First => "first",
-        Func::Last => "last",
-        Func::Length => "length",
-        Func::Nrow => "nrow",
-        Func::Ncol => "ncol",
-        Func::Names => "names",
-    }
+    FUNCS[f as usize].0
 }
 
+/// What the call of a function is.
 pub fn kind_of(f: Func) -> Kind
     ensures { result ≡ kind_of f }
 {
     match f {
         Func::DataTable | Func::Fread | Func::Copy => Kind::Table,
         Func::Library | Func::Print | Func::Fwrite | Func::Rm => Kind::Command,
+        Func::Set | Func::SetNames => Kind::Command,
         Func::Nrow | Func::Ncol | Func::Names => Kind::Description,
         _ => Kind::Vector,
     }
 }
 
+/// How the arguments of a function are bound.
 pub fn arity_of(f: Func) -> Arity
     ensures { result ≡ arity_of f }
 {
@@ -153,55 +193,29 @@ pub fn arity_of(f: Func) -> Arity
 pub fn formals(f: Func) -> &'static [Formal]
     ensures { result.now ≡ formals_of f }
 {
-    match f {
-        Func::DataTable | Func::Combine => &[],
-        Func::Fread => &[Formal::File],
-        Func::Copy => &[Formal::Table],
-        Func::Library => &[Formal::Package],
-        Func::Print => &[Formal::Value],
-        Func::Fwrite => &[Formal::Table, Formal::File],
-        Func::Rm => &[Formal::Name],
-        Func::IsNa | Func::AsLogical | Func::AsInteger | Func::AsCharacter => &[Formal::X],
-        Func::Fifelse => &[Formal::Test, Formal::Yes, Formal::No],
-        Func::Sum | Func::Min | Func::Max => &[Formal::X, Formal::NaRm],
-        Func::Any | Func::All | Func::First | Func::Last | Func::Length => &[Formal::X],
-        Func::Nrow | Func::Ncol | Func::Names => &[Formal::D],
-    }
+    FORMALS[f as usize]
 }
 
 /// Whether the language has a call of this name that nothing serves yet.
 pub fn is_later(name: &str) -> bool
     ensures { result ≡ is_later name.now }
 {
-    match name {
-        "cumsum" | "shift" | "rleid" | "frank" => true,
-        "key" | "indices" | "lapply" | "order" | "J" => true,
-        "melt" | "dcast" | "foverlaps" => true,
-        "set" | "setkey" | "setindex" | "setorder" | "setnames" | "options" => true,
-        _ => false,
-    }
+    named(&LATER, name).is_some()
 }
 
 /// Whether this names the list of a bracket, `.( )` or `list( )`.
 pub fn is_list(name: &str) -> bool
     ensures { result ≡ is_list name.now }
 {
-    match name {
-        "." | "list" => true,
-        _ => false,
-    }
+    name == "." || name == "list"
 }
 
 /// What a call of this name is, where the language has one that is no served function.
 pub fn later_named(name: &str) -> Option<Later>
     ensures { result ≡ later_of name.now }
 {
-    match name {
-        "cumsum" | "shift" | "rleid" | "frank" => Some(Later::Vector),
-        "melt" | "dcast" | "foverlaps" => Some(Later::NoVector),
-        "key" | "indices" | "lapply" | "order" | "." | "list" | "J" => Some(Later::NoVector),
-        "set" | "setkey" | "setindex" => Some(Later::Command),
-        "setorder" | "setnames" | "options" => Some(Later::Command),
-        _ => None,
+    if is_list(name) {
+        return Some(Later::NoVector);
     }
+    named(&LATER, name)
 }

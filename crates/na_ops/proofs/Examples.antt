@@ -1,13 +1,15 @@
 -- Worked examples of operations and conversions. Each holds by computing both sides.
-use Rattle.std.proofs.Common.{◌≡◌, ◌-◌, ◌^◌, ℕ, ℤ, pos, negsuc, Bool, true, false, List, [], ◌∷◌, Option, None, Some, Result, Ok, Err, codes, refl}
+use Rattle.std.proofs.Common.{◌≡◌, ◌-◌, ◌^◌, pos, negsuc, true, false, List, [], ◌∷◌, None, Some}
+use Rattle.std.proofs.Common.{Ok, Err, codes, refl}
 use Rattle.dt_base.specs.declared.cell.Cell.{Cell}
 use Rattle.dt_base.specs.declared.cell.Cell.TheVariants as is
 use Rattle.dt_base.specs.declared.cell.ColType.{ColType}
 use Rattle.dt_base.specs.declared.cell.ColType.TheVariants as ty
 use Rattle.dt_base.specs.declared.operators.Op.TheVariants as op
 use Rattle.dt_base.specs.declared.operators.UnOp.TheVariants as un
-use Rattle.dt_model.specs.Coercion.{brought, becomes_true, becomes_na, common}
-use Rattle.dt_model.specs.Operations.{Outside, Gives, Overflow, op_type, op_cell, unary_cell, floor_quotient, floor_remainder, joint, binary, chosen, contained}
+use Rattle.dt_model.specs.Coercion.{brought, becomes_true, becomes_na}
+use Rattle.dt_model.specs.Operations.{Outside, Gives, Overflow, op_type, op_cell, unary_cell, floor_quotient}
+use Rattle.dt_model.specs.Operations.{floor_remainder, joint, binary, chosen, contained}
 use Rattle.dt_model.specs.Operations as fault
 use Rattle.dt_model.specs.Vector.{Vector}
 
@@ -71,7 +73,9 @@ two_beside_three : joint 2 3 ≡ None
 two_beside_three = refl
 
 -- the least place is told
-least_place : binary op.Add (vector ty.Int (is.Int (pos 1) ∷ is.Int (pos (2 ^ 63 - 1)) ∷ is.Int (pos (2 ^ 63 - 1)) ∷ [])) (vector ty.Int (is.Int (pos 1) ∷ [])) ≡ Err (Overflow 1)
+least_place : binary op.Add (vector ty.Int
+    (is.Int (pos 1) ∷ is.Int (pos (2 ^ 63 - 1)) ∷ is.Int (pos (2 ^ 63 - 1)) ∷ [])) (vector ty.Int (is.Int (pos 1) ∷ []))
+    ≡ Err (Overflow 1)
 unfolding vector
 least_place = refl
 
@@ -99,7 +103,8 @@ text_na : becomes_na ty.Int (is.Text (codes "NA")) ≡ true
 text_na = refl
 
 -- fifelse of TRUE, NA: the first, NA
-choice : chosen (vector ty.Lgl (is.Lgl true ∷ is.Na ∷ [])) (vector ty.Lgl (is.Lgl true ∷ [])) (vector ty.Int (is.Int (pos 7) ∷ []))
+choice : chosen (vector ty.Lgl (is.Lgl true ∷ is.Na ∷ [])) (vector ty.Lgl (is.Lgl true ∷ []))
+    (vector ty.Int (is.Int (pos 7) ∷ []))
     ≡ Ok (vector ty.Int (is.Int (pos 1) ∷ is.Na ∷ []))
 unfolding vector
 choice = refl

@@ -1,5 +1,5 @@
 -- Quotients of numbers.
-use Rattle.std.proofs.Common.{ℕ, ◌<◌, ◌≤◌, ◌/◌, ◌^◌, arith}
+use Rattle.std.proofs.Common.{ℕ, ◌<◌, ◌/◌, ◌^◌, arith}
 use Rattle.std.proofs.Math.Nat.{div-le_self}
 
 pub quotient_small : (n m : ℕ) → n < 2 ^ 63 → n / m < 2 ^ 63

@@ -1,4 +1,2 @@
-pub mod Answers
 pub mod Families
-pub mod Same
 pub mod Words

@@ -1,7 +1,6 @@
 -- Words of columns, and what an operation on words is to give.
 --   IsWord cell o w    the word w stands for what the outcome o gives; none where o is outside
---   Serves n len       a column of this length has a cell for each of n places
-use Rattle.std.specs.Prelude.{◌≡◌, ◌⊎◌, ℕ, Option, None, Some}
+use Rattle.std.specs.Prelude.{◌≡◌, Option, None, Some}
 use Rattle.dt_base.specs.declared.cell.Cell.{Cell}
 use Rattle.dt_model.specs.Operations.{Outcome, Outside, Gives}
 
@@ -9,7 +8,3 @@ use Rattle.dt_model.specs.Operations.{Outcome, Outside, Gives}
 abbrev pub IsWord : {W : Type 0} → (W → Cell) → Outcome → Option W → Type 0
 IsWord cell o None = o ≡ Outside
 IsWord cell o (Some w) = o ≡ Gives (cell w)
-
--- one cell for all places, or one for each
-abbrev pub Serves : ℕ → ℕ → Type 0
-Serves n len = (len ≡ 1) ⊎ (len ≡ n)

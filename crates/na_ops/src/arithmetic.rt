@@ -1,14 +1,17 @@
-ghost use Rattle.std.specs.Prelude.{◌≡◌, ◌≢◌, ◌<◌, ◌≤◌, ◌^◌, ◌+ℤ◌, ◌-ℤ◌, ◌*ℤ◌, ◌<ℤ◌, ℤ, pos, negsuc, Option, nat_lt, unsigned_abs};
-ghost use Rattle.dt_model.specs.Operations.{Outcome, number, whole, added, subtracted, multiplied, quotient, remainder, rounded_down, floor_quotient, floor_remainder};
+ghost use Rattle.std.specs.Prelude.{◌≡◌, ◌≢◌, ◌<◌, ◌≤◌, ◌^◌, ◌+ℤ◌, ◌-ℤ◌, ◌*ℤ◌, ◌<ℤ◌, ℤ, pos};
+ghost use Rattle.std.specs.Prelude.{negsuc, Option, nat_lt, unsigned_abs};
+ghost use Rattle.dt_model.specs.Operations.{Outcome, number, whole, added, subtracted, multiplied};
+ghost use Rattle.dt_model.specs.Operations.{quotient, remainder, rounded_down, floor_quotient};
+ghost use Rattle.dt_model.specs.Operations.{floor_remainder};
 ghost use Rattle.na_vector.specs.Words.{int_cell};
-ghost use Rattle.na_ops.specs.Answers.{Answers, vector_of};
+ghost use Rattle.na_common.specs.Answers.{Answers, vector_of};
 ghost use Rattle.na_ops.specs.Families.{arithmetic_answer};
 ghost use Rattle.na_words.specs.Shown.{shown, IsShown};
 ghost use Rattle.na_ops.specs.Words.{IsWord};
 
-use crate::OpFail;
 use crate::places::{Kernel, over};
 use dt_base::limits::{MAX_INTEGER, NA_WORD};
+use na_common::OpFail;
 use na_vector::Column;
 use na_words::{Number, Words};
 use std::alloc::Global;

@@ -4,16 +4,17 @@ ghost use Rattle.std.specs.Cmp.Lexicographic.{slice_cmp};
 ghost use Rattle.std.specs.Ordering.{nat_cmp, int_cmp, is_eq, is_ne, is_lt, is_le, is_gt, is_ge};
 ghost use Rattle.std.specs.declared.cmp.Ordering.{Ordering};
 ghost use Rattle.dt_base.specs.declared.limits.TheConstants.{MAX_ROWS};
-ghost use Rattle.dt_model.specs.Operations.{Gives, number, text, order_of, tested, over_cells, typed};
+ghost use Rattle.dt_model.specs.Operations.{Gives, number, text, order_of, tested, over_cells};
+ghost use Rattle.dt_model.specs.Operations.{typed};
 ghost use Rattle.na_vector.specs.Words.{int_cell, lgl_cell, text_cell, IsLglWord};
-ghost use Rattle.na_ops.specs.Answers.{Answers, vector_of};
+ghost use Rattle.na_common.specs.Answers.{Answers, vector_of};
 ghost use Rattle.na_ops.specs.Families.{comparison_answer};
 ghost use Rattle.na_words.specs.Shown.{shown, IsShown};
 
-use crate::OpFail;
 use crate::places::{Kernel, over};
 use dt_base::Text;
 use dt_base::limits::NA_WORD;
+use na_common::OpFail;
 use na_vector::Column;
 use na_words::{NA_LGL, Number, Words, brought_words};
 use std::alloc::Global;
@@ -42,7 +43,8 @@ pub struct TextsTest<K> {
 }
 
 fn number_test<K: Comparison>(x: i64, y: i64) -> u8
-    ensures word { tested K.test (order_of int_cmp (number (int_cell x)) (number (int_cell y))) ≡ Gives (lgl_cell result) }
+    ensures word { tested K.test (order_of int_cmp (number (int_cell x)) (number (int_cell y)))
+        ≡ Gives (lgl_cell result) }
     ensures fine { IsLglWord result }
 {
     if x == NA_WORD || y == NA_WORD {
@@ -79,7 +81,8 @@ fn compare_texts_left<K: Comparison>(
     requires left { length a.now ≤ MAX_ROWS }
     requires right { IsShown b }
     ensures { Answers vector_of (typed (Some ty.Lgl)
-        (over_cells (λ x y. tested K.test (order_of (slice_cmp nat_cmp) (text x) (text y))) (map text_cell a.now) (shown b.entry).cells)) result }
+        (over_cells (λ x y. tested K.test (order_of (slice_cmp nat_cmp) (text x) (text y)))
+        (map text_cell a.now) (shown b.entry).cells)) result }
 {
     match brought_words::<Option<Text>>(alloc, b) {
         Ok(texts) => over::<Option<Text>, Option<Text>, u8, TextsTest<K>>(
@@ -100,7 +103,8 @@ fn compare_texts_right<K: Comparison>(
     requires left { IsShown a }
     requires right { length b.now ≤ MAX_ROWS }
     ensures { Answers vector_of (typed (Some ty.Lgl)
-        (over_cells (λ x y. tested K.test (order_of (slice_cmp nat_cmp) (text x) (text y))) (shown a.entry).cells (map text_cell b.now))) result }
+        (over_cells (λ x y. tested K.test (order_of (slice_cmp nat_cmp) (text x) (text y)))
+        (shown a.entry).cells (map text_cell b.now))) result }
 {
     match brought_words::<Option<Text>>(alloc, a) {
         Ok(texts) => over::<Option<Text>, Option<Text>, u8, TextsTest<K>>(

@@ -1,11 +1,11 @@
 ghost use Rattle.std.specs.Prelude.{◌≡◌};
 ghost use Rattle.dt_model.specs.Operations.{Gives, both_true, one_true};
-ghost use Rattle.na_ops.specs.Answers.{Answers, vector_of};
+ghost use Rattle.na_common.specs.Answers.{Answers, vector_of};
 ghost use Rattle.na_ops.specs.Families.{logic_answer};
 ghost use Rattle.na_words.specs.Shown.{shown, IsShown};
 
-use crate::OpFail;
 use crate::places::{Kernel, over};
+use na_common::OpFail;
 use na_vector::Column;
 use na_words::{NA_LGL, Words};
 use std::alloc::Global;

@@ -4,12 +4,12 @@ ghost use Rattle.dt_base.specs.declared.limits.TheConstants.{MAX_ROWS};
 ghost use Rattle.dt_model.specs.Coercion.{is_na};
 ghost use Rattle.dt_model.specs.Operations.{unary, negated, inverted, number, typed};
 ghost use Rattle.na_vector.specs.Words.{int_cell, lgl_cell, IsLglWord};
-ghost use Rattle.na_ops.specs.Answers.{Answers, vector_of};
+ghost use Rattle.na_common.specs.Answers.{Answers, vector_of};
 ghost use Rattle.na_words.specs.Shown.{shown, IsShown};
 
-use crate::OpFail;
 use dt_base::limits::NA_WORD;
 use dt_base::{Steps, Text, UnOp};
+use na_common::OpFail;
 use na_vector::Column;
 use na_words::{Change, NA_LGL, Number, Target, Word, Words, append, words_of};
 use std::alloc::{AllocError, Global};

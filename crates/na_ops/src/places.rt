@@ -1,11 +1,14 @@
-ghost use Rattle.std.specs.Prelude.{◌≡◌, ◌<◌, ◌≤◌, ◌==◌, ◌++◌, ◌∷◌, [], length, map, All, Some, OnOk, IfOk, IfErr, IfSome, if◌then◌else◌};
+ghost use Rattle.std.specs.Prelude.{◌≡◌, ◌<◌, ◌≤◌, ◌==◌, ◌++◌, ◌∷◌, [], length, map, All, Some};
+ghost use Rattle.std.specs.Prelude.{OnOk, IfOk, IfErr, IfSome, if◌then◌else◌};
 ghost use Rattle.dt_base.specs.declared.cell.Cell.{Cell};
 ghost use Rattle.dt_base.specs.declared.limits.TheConstants.{MAX_ROWS};
-ghost use Rattle.dt_model.specs.Operations.{Outcome, at_place, at_places, settled, joint, over_cells, typed};
-ghost use Rattle.na_ops.specs.Answers.{Answers, IsNoMemory, vector_of};
-ghost use Rattle.na_ops.specs.Words.{IsWord, Serves};
+ghost use Rattle.dt_model.specs.Operations.{Outcome, at_place, at_places, settled, joint};
+ghost use Rattle.dt_model.specs.Operations.{over_cells, typed};
+ghost use Rattle.na_common.specs.Answers.{Answers, IsNoMemory, vector_of};
+ghost use Rattle.na_common.specs.Places.{Serves};
+ghost use Rattle.na_ops.specs.Words.{IsWord};
 
-use crate::OpFail;
+use na_common::{OpFail, place_in};
 use na_vector::Column;
 use na_words::{Target, Word};
 use std::alloc::{AllocError, Global};
@@ -20,12 +23,6 @@ pub trait Kernel<A: Word, B: Word, W: Word> {
         ensures fine { IfSome result W.fine };
 }
 
-pub fn place_in(len: usize, p: usize) -> usize
-    ensures { result ≡ (if len == 1 then 0 else p) }
-{
-    if len == 1 { 0 } else { p }
-}
-
 /// The word for one place.
 fn word_at<A: Word, B: Word, W: Word, K: Kernel<A, B, W>>(a: &[A], b: &[B], p: usize) -> Option<W>
     requires left { (if length a.now == 1 then 0 else p) < length a.now }
@@ -34,14 +31,6 @@ fn word_at<A: Word, B: Word, W: Word, K: Kernel<A, B, W>>(a: &[A], b: &[B], p: u
     ensures fine { IfSome result W.fine }
 {
     K::at(&a[place_in(a.len(), p)], &b[place_in(b.len(), p)])
-}
-
-/// One more at the end of the list.
-pub fn push<W: Drop>(list: &mut Vec<W>, x: W) -> Result<(), AllocError>
-    ensures { OnOk result (list.new.items ≡ list.old.items ++ x ∷ []) }
-{
-    list.push(x)?;
-    Ok(())
 }
 
 /// `list` with one more at its end.

@@ -1,14 +1,13 @@
 ghost use Rattle.std.specs.Prelude.{◌≡◌, ◌+◌, length};
-ghost use Rattle.dt_model.specs.Coercion.{common};
 ghost use Rattle.dt_model.specs.Operations.{binary, op_type};
-ghost use Rattle.na_ops.specs.Answers.{Answers, vector_of};
+ghost use Rattle.na_common.specs.Answers.{Answers, vector_of};
 ghost use Rattle.na_words.specs.Shown.{shown, IsShown};
 
-use crate::OpFail;
 use crate::arithmetic::{Add, Divide, Modulo, Multiply, Subtract, calculate};
 use crate::compare::{Equal, Greater, GreaterOrEqual, Less, LessOrEqual, NotEqual, compare};
 use crate::logic::{Both, Either, connect};
 use dt_base::{ColType, Op, Steps};
+use na_common::OpFail;
 use na_vector::Column;
 use na_words::{Words, words_of};
 use std::alloc::Global;
@@ -34,22 +33,6 @@ const COMPARISON: [[Case; TYPES]; TYPES] = [[LGL, LGL, LGL], [LGL, LGL, LGL], [L
 
 /// The types of `&` and `|`.
 const LOGIC: [[Case; TYPES]; TYPES] = [[LGL, NONE, NONE], [NONE, NONE, NONE], [NONE, NONE, NONE]];
-
-/// The common types.
-const COMMON: [[ColType; TYPES]; TYPES] = [
-    [ColType::Lgl, ColType::Int, ColType::Chr],
-    [ColType::Int, ColType::Int, ColType::Chr],
-    [ColType::Chr, ColType::Chr, ColType::Chr],
-];
-
-/// The common type of two types, which is the higher one.
-///
-/// dtq's own rule, docs/LANGUAGE.md, section "Operators".
-pub fn common(a: ColType, b: ColType) -> ColType
-    ensures { result ≡ common a b }
-{
-    COMMON[a as usize][b as usize]
-}
 
 /// The type of an operation's result for two types, if they have one.
 pub fn op_type(op: Op, a: ColType, b: ColType) -> Option<ColType>
@@ -88,10 +71,10 @@ fn operate(alloc: Global, op: Op, a: Words<'_>, b: Words<'_>) -> Result<Column, 
 /// The column of an operation at each place of two columns.
 ///
 /// Two lengths are equal, or one is 1 and its only cell stands at every place; the result has the
-/// other length, 0 included. It is `BadType` where the two types have no result, else `Length` where
-/// the lengths do not go together, else `Overflow` with the least place where some result is outside
-/// the integers; else only memory can lack. It touches each cell of both columns once, refused or
-/// not.
+/// other length, 0 included. It is `BadType` where the two types have no result, else `Length`
+/// where the lengths do not go together, else `Overflow` with the least place where some result is
+/// outside the integers; else only memory can lack. It touches each cell of both columns once,
+/// refused or not.
 ///
 /// dtq's own rule, docs/LANGUAGE.md, section "Operators".
 pub fn binary<L: Ledger>(

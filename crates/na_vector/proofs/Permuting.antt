@@ -11,14 +11,18 @@ use Rattle.dt_model.specs.Vector.{IsWithin}
 use Rattle.na_vector.specs.Frame.{rows_with}
 
 -- there are as many places as rows
-pub permuted_length : (n : ℕ) (order : List ℕ) (places : List (Option ℕ)) → IsPermutation (range_with_len 0 n) order → places ≡ map Some order → length places ≡ n
+pub permuted_length : (n : ℕ) (order : List ℕ) (places : List (Option ℕ)) → IsPermutation (range_with_len 0 n) order
+    → places ≡ map Some order → length places ≡ n
 permuted_length n order places h e =
-    ap length e ∙ (length-map order Some ∙ (length_permutation (range_with_len 0 n) order h ∙ length-range_with_len 0 n))
+    ap length e ∙ (length-map order Some ∙ (length_permutation (range_with_len 0 n) order h
+    ∙ length-range_with_len 0 n))
 
 -- each is one of the rows
-pub permuted_within : (n : ℕ) (order : List ℕ) (places : List (Option ℕ)) → IsPermutation (range_with_len 0 n) order → places ≡ map Some order → All (IsWithin n) places
+pub permuted_within : (n : ℕ) (order : List ℕ) (places : List (Option ℕ)) → IsPermutation (range_with_len 0 n) order
+    → places ≡ map Some order → All (IsWithin n) places
 permuted_within n order places h e =
-    let all : All (λ r. r < n) (range_with_len 0 n) = λ k d lt. (let below : k < n = rw (← length-range_with_len 0 n) lt in
+    let all : All (λ r. r < n) (range_with_len 0 n) =
+    λ k d lt. (let below : k < n = rw (← length-range_with_len 0 n) lt in
     let at = get_or-range_with_len 0 n k d below in omega arith) in
     let there : All (λ r. r < n) order = All-permutation (λ r. r < n) (range_with_len 0 n) order h all in
     rw e (All-map (IsWithin n) Some order there)

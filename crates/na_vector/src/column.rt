@@ -1,8 +1,10 @@
-ghost use Rattle.std.specs.Prelude.{◌≡◌, ◌+◌, ◌<◌, ◌≤◌, ◌++◌, ◌∷◌, [], length, map, All, IfOk, OnOk, OnErr, slice_set};
+ghost use Rattle.std.specs.Prelude.{◌≡◌, ◌+◌, ◌<◌, ◌≤◌, ◌++◌, ◌∷◌, [], length, map, All, IfOk};
+ghost use Rattle.std.specs.Prelude.{OnOk, OnErr, slice_set};
 ghost use Rattle.dt_base.specs.Cell.{seen, IsOfType};
 ghost use Rattle.dt_base.specs.declared.limits.TheConstants.{MAX_ROWS};
 ghost use Rattle.dt_model.specs.Vector.{IsVector, IsWithin, cell_at, gathered};
-ghost use Rattle.na_vector.specs.Words.{int_cell, lgl_cell, text_cell, text_count, IsLglWord, int_vector, lgl_vector, text_vector};
+ghost use Rattle.na_vector.specs.Words.{int_cell, lgl_cell, text_cell, text_count, IsLglWord};
+ghost use Rattle.na_vector.specs.Words.{int_vector, lgl_vector, text_vector};
 
 use crate::gather::{copied_texts, gather_ints, gather_lgls, gather_texts};
 use crate::words::{int_ref, int_word, lgl_ref, lgl_word, text_ref, text_word};
@@ -182,8 +184,8 @@ impl Column {
         }
     }
 
-    /// Adds a cell, NA or of the column's type, at the end. It lowers the spare number by at most 1,
-    /// and wants memory only where that is 0. A refused cell leaves all cells. It touches none.
+    /// Adds a cell, NA or of the column's type, at the end. It lowers the spare number by at most
+    /// 1, and wants memory only where that is 0. A refused cell leaves all cells. It touches none.
     pub fn push(&mut self, v: Cell) -> Result<(), AllocError>
         requires typed { IsOfType self.old.vector.kind v }
         requires room { length self.old.vector.cells < MAX_ROWS }
@@ -214,8 +216,8 @@ impl Column {
     }
 
     /// The cells at these places, counted from 0, in their order, with NA for none. There are at
-    /// most 16,777,216 places, each in range. It touches a cell for each place, and takes the memory
-    /// of the words at once.
+    /// most 16,777,216 places, each in range. It touches a cell for each place, and takes the
+    /// memory of the words at once.
     pub fn gather<L: Ledger>(
         &self,
         alloc: Global,
@@ -258,9 +260,11 @@ impl Store {
         requires stored { IsStored self.old }
         ensures kept { IsStored self.new }
         ensures kind { (seen_of self.new).vector.kind ≡ (seen_of self.old).vector.kind }
-        ensures ok { OnOk result ((seen_of self.new).vector.cells ≡ (seen_of self.old).vector.cells ++ v ∷ []) }
+        ensures ok { OnOk result ((seen_of self.new).vector.cells
+            ≡ (seen_of self.old).vector.cells ++ v ∷ []) }
         ensures spare { (seen_of self.old).spare ≤ (seen_of self.new).spare + 1 }
-        ensures err { OnErr result ((seen_of self.new).vector.cells ≡ (seen_of self.old).vector.cells) }
+        ensures err { OnErr result
+            ((seen_of self.new).vector.cells ≡ (seen_of self.old).vector.cells) }
         ensures full { OnErr result ((seen_of self.old).spare ≡ 0) }
     {
         match self {
@@ -277,7 +281,8 @@ impl Store {
         requires stored { IsStored self.old }
         ensures kept { IsStored self.new }
         ensures kind { (seen_of self.new).vector.kind ≡ (seen_of self.old).vector.kind }
-        ensures cells { (seen_of self.new).vector.cells ≡ slice_set (seen_of self.old).vector.cells p v }
+        ensures cells { (seen_of self.new).vector.cells
+            ≡ slice_set (seen_of self.old).vector.cells p v }
         ensures spare { (seen_of self.new).spare ≡ (seen_of self.old).spare }
     {
         match self {

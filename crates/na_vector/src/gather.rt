@@ -54,7 +54,8 @@ pub fn gather_ints(
     rows: &[Option<u32>],
 ) -> Result<Vec<i64>, AllocError>
     requires { All (IsWithin (length words.now)) rows.now }
-    ensures { IfOk result (λ v. map int_cell v.items ≡ map (picked (map int_cell words.now)) rows.now) }
+    ensures { IfOk result (λ v. map int_cell v.items
+        ≡ map (picked (map int_cell words.now)) rows.now) }
 {
     let mut out = Vec::with_capacity(alloc, rows.len())?;
     for row in rows {
@@ -66,7 +67,8 @@ pub fn gather_ints(
 pub fn gather_lgls(alloc: Global, words: &[u8], rows: &[Option<u32>]) -> Result<Vec<u8>, AllocError>
     requires within { All (IsWithin (length words.now)) rows.now }
     requires small { All IsLglWord words.now }
-    ensures cells { IfOk result (λ v. map lgl_cell v.items ≡ map (picked (map lgl_cell words.now)) rows.now) }
+    ensures cells { IfOk result
+        (λ v. map lgl_cell v.items ≡ map (picked (map lgl_cell words.now)) rows.now) }
     ensures small { IfOk result (λ v. All IsLglWord v.items) }
 {
     let mut out = Vec::with_capacity(alloc, rows.len())?;
@@ -82,7 +84,8 @@ pub fn gather_texts(
     rows: &[Option<u32>],
 ) -> Result<Vec<Option<Text>>, AllocError>
     requires { All (IsWithin (length texts.now)) rows.now }
-    ensures { IfOk result (λ v. map text_cell v.items ≡ map (picked (map text_cell texts.now)) rows.now) }
+    ensures { IfOk result (λ v. map text_cell v.items
+        ≡ map (picked (map text_cell texts.now)) rows.now) }
 {
     let mut out = Vec::with_capacity(alloc, rows.len())?;
     for row in rows {

@@ -1,5 +1,5 @@
 -- The words of a column are within the limit.
-use Rattle.std.proofs.Common.{◌≡◌, ◌≤◌, length, map, arith}
+use Rattle.std.proofs.Common.{◌≤◌, length, arith}
 use Rattle.std.proofs.lemmas.List.{length-map}
 use Rattle.na_vector.specs.Words.{int_cell, lgl_cell, text_cell}
 use Rattle.na_words.specs.Shown.{shown, IsShown}

@@ -3,7 +3,8 @@ ghost use Rattle.std.specs.List.{list_any};
 ghost use Rattle.dt_base.specs.declared.cell.Cell.{Cell};
 ghost use Rattle.dt_base.specs.declared.cell.ColType.TheVariants as ty;
 ghost use Rattle.dt_base.specs.declared.limits.TheConstants.{MAX_ROWS};
-ghost use Rattle.dt_model.specs.Coercion.{brought, becomes_true, becomes_na, coerced, coercion_warns};
+ghost use Rattle.dt_model.specs.Coercion.{brought, becomes_true, becomes_na, coerced};
+ghost use Rattle.dt_model.specs.Coercion.{coercion_warns};
 ghost use Rattle.dt_model.specs.Vector.{cell_at};
 ghost use Rattle.na_vector.specs.Words.{int_cell, text_cell};
 ghost use Rattle.na_words.specs.Shown.{shown, IsShown};
@@ -61,7 +62,8 @@ pub fn append_words<W: Target + Drop>(
 ) -> Result<(), AllocError>
     requires fine { All W.fine out.old.items }
     ensures cells { OnOk result
-        (map W.cell out.new.items ≡ map W.cell out.old.items ++ map (brought W.kind) (shown words.entry).cells) }
+        (map W.cell out.new.items ≡ map W.cell out.old.items
+        ++ map (brought W.kind) (shown words.entry).cells) }
     ensures fine { OnOk result (All W.fine out.new.items) }
     ensures count { OnOk result
         (length out.new.items ≡ length out.old.items + length (shown words.entry).cells) }
@@ -80,7 +82,8 @@ pub fn brought_words<W: Target + Drop>(
     words: Words<'_>,
 ) -> Result<Vec<W>, AllocError>
     requires { IsShown words }
-    ensures cells { IfOk result (λ v. map W.cell v.items ≡ map (brought W.kind) (shown words.entry).cells) }
+    ensures cells { IfOk result
+        (λ v. map W.cell v.items ≡ map (brought W.kind) (shown words.entry).cells) }
     ensures fine { IfOk result (λ v. All W.fine v.items) }
     ensures short { IfOk result (λ v. length v.items ≤ MAX_ROWS) }
 {

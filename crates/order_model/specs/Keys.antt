@@ -12,7 +12,8 @@
 --   reordered by t          the table with its rows in the order of these columns
 --   key_set names t         the table after `setkey`
 --   order_set by t          the table after `setorder`
-use Rattle.std.specs.Prelude.{◌≡◌, ◌+◌, ◌<◌, ℕ, Bool, not, false, List, [], length, map, Option, None, Some, option_map, unwrap_or, position, slice_index, slice_index_or, take_while}
+use Rattle.std.specs.Prelude.{◌≡◌, ◌+◌, ◌<◌, ℕ, Bool, not, false, List, [], length, map, Option, None, Some, option_map}
+use Rattle.std.specs.Prelude.{unwrap_or, position, slice_index, slice_index_or, take_while}
 use Rattle.std.specs.List.{list_any, filter}
 use Rattle.std.specs.Ordering.{is_gt}
 use Rattle.std.specs.Str.{bytes_eq}

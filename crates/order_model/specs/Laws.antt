@@ -6,7 +6,8 @@ use Rattle.dt_base.specs.declared.cell.Cell.{Cell}
 use Rattle.dt_model.specs.Table.{PlainTable}
 use Rattle.order_model.specs.Order.{Sorting}
 use Rattle.order_model.specs.Places.{ordering, IsTrueKey, IsTrueIndex}
-use Rattle.order_model.specs.Keys.{key_of, cells_named, IsKeyTrue, is_among, cut, assigned, new_name, renamed, taken, IsInOrder, key_set}
+use Rattle.order_model.specs.Keys.{key_of, cells_named, IsKeyTrue, is_among, cut, assigned, new_name, renamed, taken}
+use Rattle.order_model.specs.Keys.{IsInOrder, key_set}
 
 -- a true index is the order, and the order is a true index
 abbrev pub OneOrder : Type 0

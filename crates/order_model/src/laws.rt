@@ -1,5 +1,7 @@
 //! What follows from the definitions alone, each law on a function of its own.
-ghost use Rattle.order_model.specs.Laws.{OneOrder, OrderMakesTrue, InOrderMakesTrue, FewerStayTrue, CutStaysTrue, ClearStaysTrue, AssignedStaysTrue, RenamedStaysTrue, SetKeyIsTrue};
+ghost use Rattle.order_model.specs.Laws.{OneOrder, OrderMakesTrue, InOrderMakesTrue, FewerStayTrue};
+ghost use Rattle.order_model.specs.Laws.{CutStaysTrue, ClearStaysTrue, AssignedStaysTrue};
+ghost use Rattle.order_model.specs.Laws.{RenamedStaysTrue, SetKeyIsTrue};
 
 /// A list of rows is a true index exactly where it is the order. So there is one for all columns
 /// and rows, and one alone.

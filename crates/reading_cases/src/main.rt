@@ -5,10 +5,10 @@
 //! - `trees` and `tokens`: what a script is read to, spelled; or the line that tells its fault.
 //! - `long`: scripts that are too long to be written down, for the word `--long`.
 //!
-//! It stands on `dt_script` and `dt_tokens`, and promises nothing: it is a test of both, so that they
-//! are proved once. It puts a line for each file with the number of its cases, so that a case that is
-//! lost is missed. Where one is wrong the status is 1, and standard error has the others' names and
-//! then what the first one has and wants.
+//! It stands on `dt_script` and `dt_tokens`, and promises nothing: it is a test of both, so that
+//! they are proved once. It puts a line for each file with the number of its cases, so that a case
+//! that is lost is missed. Where one is wrong the status is 1, and standard error has the others'
+//! names and then what the first one has and wants.
 #![tactic(auto)]
 
 mod files;

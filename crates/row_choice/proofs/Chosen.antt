@@ -1,5 +1,7 @@
 -- What an i chooses is within the table, and is not too much.
-use Rattle.std.proofs.Common.{◌≡◌, ◌≤◌, ◌==◌, ℕ, zero, suc, pos, negsuc, Bool, true, false, not, nat_lt, if◌then◌else◌, List, [], ◌∷◌, length, All, Some, None, Result, Ok, Err, IfOk, refl, subst, arith, length-append}
+use Rattle.std.proofs.Common.{◌≡◌, ◌≤◌, ◌==◌, ℕ, zero, suc, pos, negsuc, Bool, true, false, not, nat_lt, if◌then◌else◌}
+use Rattle.std.proofs.Common.{List, [], ◌∷◌, length, All, Some, None, Result, Ok, Err, IfOk, refl, subst, arith}
+use Rattle.std.proofs.Common.{length-append}
 use Rattle.std.specs.List.{list_all, list_any}
 use Rattle.std.proofs.lemmas.Grind.{common_steps}
 use Rattle.std.proofs.lemmas.List.Elements.{All-nil, All-cons, All-append}
@@ -10,7 +12,8 @@ use Rattle.dt_base.specs.declared.cell.Cell.TheVariants as is
 use Rattle.dt_base.specs.declared.cell.ColType.TheVariants as ty
 use Rattle.dt_base.specs.declared.fault.Fault.{Fault}
 use Rattle.dt_model.specs.Vector.{IsWithin, Vector, cell_at}
-use Rattle.row_model.specs.Rows.{Places, all_rows, by_place, by_truth, chosen, chosen_by, is_below_or_zero, is_below_zero, is_true, leaves_out, left_rows, named_row, named_rows, true_rows}
+use Rattle.row_model.specs.Rows.{Places, all_rows, by_place, by_truth, chosen, chosen_by, is_below_or_zero}
+use Rattle.row_model.specs.Rows.{is_below_zero, is_true, leaves_out, left_rows, named_row, named_rows, true_rows}
 use Rattle.row_choice.proofs.Ranges.{all_count, all_within, rows_short, rows_within}
 
 -- each place is within n rows, and there are at most m
@@ -38,7 +41,10 @@ none_fine : (n m : ℕ) → Fine n m []
 none_fine n m = record { within = All-nil (IsWithin n); short = omega arith }
 
 one_fine : (n m : ℕ) (b : Bool) → n ≤ m → Fine n m (if b then all_rows n else [])
-one_fine n m true h = record { within = all_within n (all_rows n) refl; short = omega (arith, all_count n (all_rows n) refl) }
+one_fine n m true h = record {
+  within = all_within n (all_rows n) refl;
+  short = omega (arith, all_count n (all_rows n) refl);
+}
 one_fine n m false h = none_fine n m
 
 truth_fine : (n m : ℕ) (cells : List Cell) → n ≤ m → IfOk (by_truth n cells) (Fine n m)
@@ -55,7 +61,8 @@ some_within n p false e = tt
 
 row_within : (n : ℕ) (c : Cell) → All (IsWithin n) (named_row n c)
 row_within n (is.Int (pos zero)) = All-nil (IsWithin n)
-row_within n (is.Int (pos (suc p))) = All-cons (IsWithin n) _ [] (some_within n p (nat_lt p n) refl) (All-nil (IsWithin n))
+row_within n (is.Int (pos (suc p))) = All-cons (IsWithin n) _ [] (some_within n p (nat_lt p n) refl)
+    (All-nil (IsWithin n))
 row_within n (is.Int (negsuc k)) = All-cons (IsWithin n) None [] tt (All-nil (IsWithin n))
 row_within n (is.Lgl b) = All-cons (IsWithin n) None [] tt (All-nil (IsWithin n))
 row_within n (is.Text t) = All-cons (IsWithin n) None [] tt (All-nil (IsWithin n))
@@ -71,7 +78,8 @@ row_short n is.Na = omega arith
 
 named_within : (n : ℕ) (cells : List Cell) → All (IsWithin n) (named_rows n cells)
 named_within n [] = All-nil (IsWithin n)
-named_within n (c ∷ rest) = All-append (IsWithin n) (named_row n c) (named_rows n rest) (row_within n c) (named_within n rest)
+named_within n (c ∷ rest) = All-append (IsWithin n) (named_row n c) (named_rows n rest) (row_within n c)
+    (named_within n rest)
 
 named_short : (n : ℕ) (cells : List Cell) → length (named_rows n cells) ≤ length cells
 named_short n [] = omega arith

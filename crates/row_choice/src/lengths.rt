@@ -1,4 +1,5 @@
-ghost use Rattle.std.specs.Prelude.{◌≡◌, ◌≤◌, ◌+◌, ◌⊎◌, ◌==◌, ◌||◌, length, map, replicate, Some, All, IfOk, IfErr};
+ghost use Rattle.std.specs.Prelude.{◌≡◌, ◌≤◌, ◌+◌, ◌⊎◌, ◌==◌, ◌||◌, length, map, replicate, Some};
+ghost use Rattle.std.specs.Prelude.{All, IfOk, IfErr};
 ghost use Rattle.eval_fail.specs.Answers.{Answers, IsOwn};
 ghost use Rattle.dt_base.specs.declared.limits.TheConstants.{MAX_ROWS};
 ghost use Rattle.dt_model.specs.Vector.{cell_at};
@@ -27,7 +28,8 @@ fn longest(values: &[Valued]) -> usize
 
 /// Whether a column goes with a length: it has one cell, or so many.
 fn goes_with(n: usize, column: &Column) -> bool
-    ensures { result ≡ (length column.now.vector.cells == 1 || length column.now.vector.cells == n) }
+    ensures { result ≡ (length column.now.vector.cells == 1
+        || length column.now.vector.cells == n) }
 {
     column.len() == 1 || column.len() == n
 }
@@ -46,16 +48,18 @@ fn fitting(alloc: Global, n: usize, values: &[Valued]) -> Result<usize, EvalFail
     Ok(n)
 }
 
-/// The length that vectors side by side come to: that of the longest; of nothing 0. Each is as long,
-/// or has one cell, which then stands in each place. The first of another length is E05 with its
-/// length and the longest.
+/// The length that vectors side by side come to: that of the longest; of nothing 0. Each is as
+/// long, or has one cell, which then stands in each place. The first of another length is E05 with
+/// its length and the longest.
 ///
 /// From the manual's page data.table, on recycling in j; the fault is dtq's own rule,
 /// docs/LANGUAGE.md, section "Faults and warnings".
 #[tactic(auto, using(crate::proofs::Fitting::fitting_all))]
 pub fn common_length(alloc: Global, values: &[Valued]) -> Result<usize, EvalFail>
     ensures answer { Answers (common_length (map vector_in values.now)) result }
-    ensures fitting { IfOk result (λ n. All (λ v. (length v.column.vector.cells ≡ 1) ⊎ (length v.column.vector.cells ≡ n)) values.now) }
+    ensures fitting { IfOk result
+        (λ n. All (λ v. (length v.column.vector.cells ≡ 1) ⊎ (length v.column.vector.cells ≡ n))
+        values.now) }
     ensures short { IfOk result (λ n. n ≤ MAX_ROWS) }
     ensures own { IfErr result IsOwn }
 {
@@ -87,7 +91,8 @@ fn first_cells<L: Ledger>(
     column.gather(alloc, places.as_slice(), steps)
 }
 
-/// A column of one cell brought to a length, its cell in each place; a column of that length as it is.
+/// A column of one cell brought to a length, its cell in each place; a column of that length as it
+/// is.
 ///
 /// It touches a cell for each place that it makes, and none of a column that it leaves.
 ///

@@ -1,4 +1,5 @@
-ghost use Rattle.std.specs.Prelude.{◌≡◌, ◌≤◌, ◌<◌, ◌++◌, ◌∷◌, [], Some, All, length, IfOk, OnOk, if◌then◌else◌};
+ghost use Rattle.std.specs.Prelude.{◌≡◌, ◌≤◌, ◌<◌, ◌++◌, ◌∷◌, [], Some, All, length, IfOk, OnOk};
+ghost use Rattle.std.specs.Prelude.{if◌then◌else◌};
 ghost use Rattle.dt_base.specs.declared.limits.TheConstants.{MAX_ROWS};
 ghost use Rattle.dt_model.specs.Vector.{IsWithin};
 ghost use Rattle.row_model.specs.Rows.{all_rows};
@@ -19,7 +20,7 @@ pub fn push_if(out: &mut Vec<Option<u32>>, p: usize, chosen: bool) -> Result<(),
 /// All rows of a table, in order, counted from 0: what a bracket with an empty i chooses.
 ///
 /// From the manual's page data.table, argument i.
-#[tactic(auto, using(crate::proofs::Ranges::all_more, crate::proofs::Ranges::all_within, crate::proofs::Ranges::all_count))]
+#[tactic(auto, using(crate::proofs::Ranges::all_of_a_table))]
 pub fn all_rows(alloc: Global, rows: usize) -> Result<Vec<Option<u32>>, AllocError>
     requires { rows ≤ MAX_ROWS }
     ensures rows { IfOk result (λ v. v.items ≡ all_rows rows) }

@@ -1,4 +1,5 @@
-ghost use Rattle.std.specs.Prelude.{ℕ, ◌≡◌, ◌<◌, ◌≤◌, ◌==◌, ◌||◌, false, not, length, map, slice_index_or, IfOk};
+ghost use Rattle.std.specs.Prelude.{ℕ, ◌≡◌, ◌<◌, ◌≤◌, ◌==◌, ◌||◌, false, not, length, map};
+ghost use Rattle.std.specs.Prelude.{slice_index_or, IfOk};
 ghost use Rattle.std.specs.List.{list_any};
 ghost use Rattle.dt_base.specs.declared.limits.TheConstants.{MAX_ROWS};
 ghost use Rattle.row_model.specs.Rows.{leaves_out, left_rows, rows_where};
@@ -23,7 +24,8 @@ fn mark_place(marks: &mut [bool], k: u64)
 fn mark(marks: &mut [bool], word: i64)
     ensures count { length marks.new ≡ length marks.old }
     ensures marks { (p : ℕ) → p < length marks.old →
-        slice_index_or marks.new p false ≡ (slice_index_or marks.old p false || leaves_out p (int_cell word)) }
+        slice_index_or marks.new p false
+        ≡ (slice_index_or marks.old p false || leaves_out p (int_cell word)) }
 {
     if let Place::Out(k) = place_of(word) {
         mark_place(marks, k);

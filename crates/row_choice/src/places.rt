@@ -1,8 +1,10 @@
-ghost use Rattle.std.specs.Prelude.{◌≡◌, ◌≤◌, ◌++◌, nat_lt, Some, None, map, IfOk, IfErr, OnOk, if◌then◌else◌};
+ghost use Rattle.std.specs.Prelude.{◌≡◌, ◌≤◌, ◌++◌, nat_lt, Some, None, map, IfOk, IfErr, OnOk};
+ghost use Rattle.std.specs.Prelude.{if◌then◌else◌};
 ghost use Rattle.std.specs.List.{list_any, list_all};
 ghost use Rattle.eval_fail.specs.Answers.{AnswersAs, IsOwn};
 ghost use Rattle.dt_base.specs.declared.limits.TheConstants.{MAX_ROWS};
-ghost use Rattle.row_model.specs.Rows.{by_place, is_below_or_zero, is_below_zero, named_row, named_rows};
+ghost use Rattle.row_model.specs.Rows.{by_place, is_below_or_zero, is_below_zero, named_row};
+ghost use Rattle.row_model.specs.Rows.{named_rows};
 ghost use Rattle.na_vector.specs.Words.{int_cell};
 
 use crate::marks::left_rows;
@@ -72,7 +74,8 @@ fn named_rows(alloc: Global, rows: usize, words: &[i64]) -> Result<Vec<Option<u3
     Ok(out)
 }
 
-/// The rows that integers choose: those that they name, or all but those that negative ones leave out.
+/// The rows that integers choose: those that they name, or all but those that negative ones leave
+/// out.
 pub fn by_place(alloc: Global, rows: usize, words: &[i64]) -> Result<Vec<Option<u32>>, EvalFail>
     requires { rows ≤ MAX_ROWS }
     ensures answer { AnswersAs (λ v. v.items) (by_place rows (map int_cell words.now)) result }

@@ -27,11 +27,11 @@ fn chosen_by(alloc: Global, words: Words<'_>, rows: usize) -> Result<Vec<Option<
     }
 }
 
-/// The rows that a value chooses as the i of a bracket, of a table of so many rows. Rows are counted
-/// from 0, and none stands for a row of NA.
+/// The rows that a value chooses as the i of a bracket, of a table of so many rows. Rows are
+/// counted from 0, and none stands for a row of NA.
 ///
-/// - Logicals, one for each row, choose the rows whose cell is TRUE; NA is not. One alone chooses all
-///   rows or none. Another length is E05 with that length and the number of rows.
+/// - Logicals, one for each row, choose the rows whose cell is TRUE; NA is not. One alone chooses
+///   all rows or none. Another length is E05 with that length and the number of rows.
 /// - Integers name rows, counted from 1, in their order: 0 names none, NA and a number past the end
 ///   name a row of NA. Where one is negative each must be negative or 0, else it is E13; they leave
 ///   out the rows that they name, and a number past the end leaves out none.

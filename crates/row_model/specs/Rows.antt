@@ -7,7 +7,8 @@
 --   left_rows n cells   what an integer i with a negative cell chooses
 --   by_place n cells    what an integer i chooses, or the fault of mixed signs
 --   chosen n v          what an i chooses whose value is v, or its fault
-use Rattle.std.specs.Prelude.{ℕ, zero, suc, ◌==◌, pos, negsuc, Bool, true, false, not, nat_lt, if◌then◌else◌, List, [], ◌∷◌, ◌++◌, length, map, Option, None, Some, Result, Ok, Err}
+use Rattle.std.specs.Prelude.{ℕ, zero, suc, ◌==◌, pos, negsuc, Bool, true, false, not, nat_lt, if◌then◌else◌, List, []}
+use Rattle.std.specs.Prelude.{◌∷◌, ◌++◌, length, map, Option, None, Some, Result, Ok, Err}
 use Rattle.std.specs.List.{filter, list_any, list_all, range_with_len}
 use Rattle.dt_base.specs.declared.cell.Cell.{Cell}
 use Rattle.dt_base.specs.declared.cell.Cell.TheVariants as is

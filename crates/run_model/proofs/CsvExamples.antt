@@ -1,10 +1,12 @@
 -- Examples of CSV files, each computed.
-use Rattle.std.proofs.Common.{◌≡◌, Ok, Err, Some, None, pos, negsuc, true, false, refl, codes, [], ◌∷◌, ◌++◌, ℕ, List, length}
+use Rattle.std.proofs.Common.{◌≡◌, Ok, Err, Some, None, pos, negsuc, true, false, refl, codes, [], ◌∷◌, ◌++◌, ℕ, List}
+use Rattle.std.proofs.Common.{length}
 use Rattle.dt_base.specs.declared.cell.Cell.TheVariants as cell
 use Rattle.dt_base.specs.declared.cell.ColType.TheVariants as ty
 use Rattle.dt_base.specs.Warns.{no_warns}
 use Rattle.dt_model.specs.Table.{no_table}
-use Rattle.run_model.specs.Csv.{read_csv, read_records, written_csv, FileFault, Ragged, NotUtf8, TooManyColumns, TooManyRows, rows_fault, header_fault}
+use Rattle.run_model.specs.Csv.{read_csv, read_records, written_csv, FileFault, Ragged, NotUtf8, TooManyColumns}
+use Rattle.run_model.specs.Csv.{TooManyRows, rows_fault, header_fault}
 use Rattle.run_model.specs.CsvCells.{fields_type, field_cell, fields_vector}
 use Rattle.run_model.specs.CsvNames.{column_names, name_warns}
 use Rattle.std.specs.Fmt.{digits}

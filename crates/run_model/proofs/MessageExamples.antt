@@ -1,5 +1,5 @@
 -- The definitions of fault and warning lines: each code once, and the two codes of two forms twice.
-use Rattle.std.proofs.Common.{◌≡◌, refl, ℕ, List, [], true}
+use Rattle.std.proofs.Common.{◌≡◌, ◌++◌, refl, ℕ, List, [], true}
 use Rattle.std.specs.Prelude.{codes}
 use Rattle.std.specs.Fmt.{digits}
 use Rattle.dt_base.specs.declared.fault.Code.{Code}
@@ -35,7 +35,8 @@ e06 : told 4 code.E06 (codes "sum") 0 0 ≡ codes "Error E06 at line 4: integer 
 unfolding digits
 e06 = refl
 
-e06_in_a_group : told 2 code.E06 (codes "sum") 1 2 ≡ codes "Error E06 at line 2: integer overflow in sum (group 1, expression 2)\n"
+e06_in_a_group : told 2 code.E06 (codes "sum") 1 2
+    ≡ codes "Error E06 at line 2: integer overflow in sum (group 1, expression 2)\n"
 unfolding digits
 e06_in_a_group = refl
 
@@ -124,6 +125,8 @@ unfolding digits
 repaired = refl
 
 all_six : printed_warns 12 (record { w01 = true; w02 = true; w03 = true; w04 = true; w05 = true; w06 = true })
-    ≡ codes "Warning W01 at line 12: integer became TRUE\nWarning W02 at line 12: text became NA\nWarning W03 at line 12: min or max of nothing\nWarning W04 at line 12: dcast counts duplicates\nWarning W05 at line 12: melt joins several types\nWarning W06 at line 12: column names repaired\n"
+    ≡ codes "Warning W01 at line 12: integer became TRUE\nWarning W02 at line 12: text became NA\n"
+    ++ codes "Warning W03 at line 12: min or max of nothing\nWarning W04 at line 12: dcast counts duplicates\n"
+    ++ codes "Warning W05 at line 12: melt joins several types\nWarning W06 at line 12: column names repaired\n"
 unfolding digits
 all_six = refl

@@ -58,7 +58,8 @@ ten_rows = refl
 -- of more than a hundred rows the first five and the last five
 many_rows :
     printed_table (head (codes "a") ty.Int ∷ []) (map (λ n. int n ∷ []) (range_with_len 1 101))
-    ≡ codes "       a\n  1:   1\n  2:   2\n  3:   3\n  4:   4\n  5:   5\n---\n 97:  97\n 98:  98\n 99:  99\n100: 100\n101: 101\n"
+    ≡ codes "       a\n  1:   1\n  2:   2\n  3:   3\n  4:   4\n  5:   5\n---\n"
+    ++ codes " 97:  97\n 98:  98\n 99:  99\n100: 100\n101: 101\n"
 unfolding digits filled_table_text header_line row_line
 many_rows = refl
 

@@ -11,7 +11,8 @@
 --   read_csv bytes        what the bytes of a file give
 --   written_rows t        the records that a table is written as
 --   written_csv t         the bytes that a table is written as
-use Rattle.std.specs.Prelude.{ℕ, ◌+◌, ◌++◌, ◌==◌, nat_lt, nat_le, not, List, [], ◌∷◌, length, map, Option, None, Some, slice_index_or, if◌then◌else◌, Result, Ok, Err}
+use Rattle.std.specs.Prelude.{ℕ, ◌+◌, ◌++◌, ◌==◌, nat_lt, nat_le, not, List, [], ◌∷◌, length, map, Option, None, Some}
+use Rattle.std.specs.Prelude.{slice_index_or, if◌then◌else◌, Result, Ok, Err}
 use Rattle.std.specs.List.{list_all, range_with_len, concat}
 use Rattle.std.specs.Str.{is_utf8}
 use Rattle.csv.specs.Reading.{records, default_config, strip_bom}

@@ -16,7 +16,9 @@
 --   first_by k s          what s begins with, where its first byte begins k
 --   first s               what s begins with
 --   IsWithin n f          a piece has a byte or more and at most n, and a fault is among n bytes
-use Rattle.std.specs.Prelude.{ℕ, ◌+◌, ◌-◌, ◌*◌, ◌^◌, ◌<◌, ◌≤◌, Bool, true, false, List, [], ◌∷◌, length, take, drop, cond, if◌then◌else◌, not, ◌&&◌, ◌||◌, ◌==◌, nat_lt, Option, Some, None, Result, Ok, Err, codes, pos, bytes_eq, option_map, slice_index}
+use Rattle.std.specs.Prelude.{ℕ, ◌+◌, ◌-◌, ◌*◌, ◌^◌, ◌<◌, ◌≤◌, Bool, true, false, List, [], ◌∷◌, length, take, drop}
+use Rattle.std.specs.Prelude.{cond, if◌then◌else◌, not, ◌&&◌, ◌||◌, ◌==◌, nat_lt, Option, Some, None, Result, Ok, Err}
+use Rattle.std.specs.Prelude.{codes, pos, bytes_eq, option_map, slice_index}
 use Rattle.std.specs.Char.{is_ascii_digit, is_ascii_alphabetic}
 use Rattle.dt_tree.specs.declared.token.Token.{Token}
 use Rattle.dt_tree.specs.declared.token.Token.TheVariants.{Name, Word, Int, Chr, Sign}

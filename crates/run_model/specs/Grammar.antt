@@ -10,12 +10,17 @@
 --   IsItem j ts x      empty | expr | expr ":=" expr, the last one as j alone
 -- An operator's level says how tightly it binds, and `IsExpr k` is an expression whose operators
 -- outside of brackets bind at least as tightly as k: one family in place of eleven.
-use Rattle.std.specs.Prelude.{◌≡◌, ℕ, suc, ◌+◌, Bool, true, false, List, [], ◌∷◌, ◌++◌, Option, Some, None, codes, if◌then◌else◌}
+use Rattle.std.specs.Prelude.{◌≡◌, ℕ, suc, ◌+◌, Bool, true, false, List, [], ◌∷◌, ◌++◌, Option, Some, None, codes}
+use Rattle.std.specs.Prelude.{if◌then◌else◌}
 use Rattle.std.specs.Str.{bytes_eq}
 use Rattle.dt_base.specs.declared.operators.Op.TheVariants.{Add, Sub, Mul, Div, Mod, Eq, Ne, Lt, Le, Gt, Ge, And, Or}
 use Rattle.dt_tree.specs.declared.tree.BinOp.{BinOp}
 use Rattle.dt_tree.specs.declared.tree.BinOp.TheVariants.{Arith, In, Range}
-use Rattle.run_model.specs.GrammarTrees.{Word, Value, Prefix, Not, Negate, Token, Name, Literal, Operator, Bang, Tilde, Assign, Arrow, Is, Open, Shut, OpenSquare, ShutSquare, Comma, Break, Tree, Lit, Var, Paren, Unary, Chain, Call, Query, Formula, Tails, NoTails, MoreTails, Args, NoArgs, MoreArgs, Item, Absent, Given, Assigns, AssignsAll, Brackets, NoBrackets, MoreBrackets, Stmt}
+use Rattle.run_model.specs.GrammarTrees.{Word, Value, Prefix, Not, Negate, Token, Name, Literal, Operator, Bang, Tilde}
+use Rattle.run_model.specs.GrammarTrees.{Assign, Arrow, Is, Open, Shut, OpenSquare, ShutSquare, Comma, Break, Tree, Lit}
+use Rattle.run_model.specs.GrammarTrees.{Var, Paren, Unary, Chain, Call, Query, Formula, Tails, NoTails, MoreTails}
+use Rattle.run_model.specs.GrammarTrees.{Args, NoArgs, MoreArgs, Item, Absent, Given, Assigns, AssignsAll, Brackets}
+use Rattle.run_model.specs.GrammarTrees.{NoBrackets, MoreBrackets, Stmt}
 
 -- how tightly an operator binds: 0 is the loosest
 abbrev pub level : BinOp → ℕ
@@ -127,7 +132,8 @@ pub data IsLeft : List Token → Option Word → Type 0 where
 -- names = name { "+" name }
 pub data IsNames : List Token → List Word → Type 0 where
   name : {x : Word} → IsNames (Name x ∷ []) (x ∷ [])
-  names : {ts : List Token} {xs : List Word} (x : Word) → IsNames ts xs → IsNames (ts ++ Operator (Arith Add) ∷ Name x ∷ []) (xs ++ x ∷ [])
+  names : {ts : List Token} {xs : List Word} (x : Word) → IsNames ts xs
+      → IsNames (ts ++ Operator (Arith Add) ∷ Name x ∷ []) (xs ++ x ∷ [])
 
 mutual
   -- IsExpr k ts t: the tokens ts spell the tree t, whose operators outside of brackets bind at least as tightly as k
@@ -135,21 +141,27 @@ mutual
     -- what binds more tightly
     higher : {k : ℕ} {ts : List Token} {t : Tree} → IsExpr (suc k) ts t → IsExpr k ts t
     -- operand op operand, and more of the same level
-    chain : {k : ℕ} {us vs : List Token} {t : Tree} {rest : Tails} → IsExpr (suc k) us t → IsTails k vs rest → IsExpr k (us ++ vs) (Chain t rest)
+    chain : {k : ℕ} {us vs : List Token} {t : Tree} {rest : Tails} → IsExpr (suc k) us t → IsTails k vs rest
+        → IsExpr k (us ++ vs) (Chain t rest)
     -- not = "!" cmp, and sign = "-" post
-    unary : {ts : List Token} {t : Tree} (p : Prefix) → IsExpr (suc (prefix_level p)) ts t → IsExpr (prefix_level p) (prefix_token p ∷ ts) (Unary p t)
+    unary : {ts : List Token} {t : Tree} (p : Prefix) → IsExpr (suc (prefix_level p)) ts t
+        → IsExpr (prefix_level p) (prefix_token p ∷ ts) (Unary p t)
     -- post = prim { "[" bracket "]" }
-    bracket : {us vs : List Token} {t : Tree} {bs : Brackets} {f : Filled} → IsHead us t bs → IsItems vs f → IsExpr post (us ++ OpenSquare ∷ (vs ++ ShutSquare ∷ [])) (Query t (with_bracket bs f))
+    bracket : {us vs : List Token} {t : Tree} {bs : Brackets} {f : Filled} → IsHead us t bs → IsItems vs f
+        → IsExpr post (us ++ OpenSquare ∷ (vs ++ ShutSquare ∷ [])) (Query t (with_bracket bs f))
     -- prim = literal | name | name "(" [arg {"," arg}] ")" | "(" expr ")"
     literal : {v : Value} → IsExpr prim (Literal v ∷ []) (Lit v)
     var : {x : Word} → IsExpr prim (Name x ∷ []) (Var x)
-    call : {x : Word} {ts : List Token} {args : Args} → IsArgs ts args → IsExpr prim (Name x ∷ Open ∷ (ts ++ Shut ∷ [])) (Call x args)
+    call : {x : Word} {ts : List Token} {args : Args} → IsArgs ts args
+        → IsExpr prim (Name x ∷ Open ∷ (ts ++ Shut ∷ [])) (Call x args)
     paren : {ts : List Token} {t : Tree} → IsExpr 0 ts t → IsExpr prim (Open ∷ (ts ++ Shut ∷ [])) (Paren t)
 
   -- op operand { op operand }, or op operand alone where the level takes one operator
   pub data IsTails : ℕ → List Token → Tails → Type 0 where
-    one : {vs : List Token} {r : Tree} (op : BinOp) → IsExpr (suc (level op)) vs r → IsTails (level op) (Operator op ∷ vs) (MoreTails NoTails op r)
-    again : {k : ℕ} {us vs : List Token} {rest : Tails} {r : Tree} (op : BinOp) → IsTails k us rest → level op ≡ k → is_single op ≡ false → IsExpr (suc k) vs r → IsTails k (us ++ Operator op ∷ vs) (MoreTails rest op r)
+    one : {vs : List Token} {r : Tree} (op : BinOp) → IsExpr (suc (level op)) vs r
+        → IsTails (level op) (Operator op ∷ vs) (MoreTails NoTails op r)
+    again : {k : ℕ} {us vs : List Token} {rest : Tails} {r : Tree} (op : BinOp) → IsTails k us rest → level op ≡ k
+        → is_single op ≡ false → IsExpr (suc k) vs r → IsTails k (us ++ Operator op ∷ vs) (MoreTails rest op r)
 
   -- what stands before a bracket: prim, or prim and brackets
   pub data IsHead : List Token → Tree → Brackets → Type 0 where
@@ -159,28 +171,34 @@ mutual
   -- expr | names "~" names
   pub data IsArg : List Token → Tree → Type 0 where
     expr : {ts : List Token} {t : Tree} → IsExpr 0 ts t → IsArg ts t
-    formula : {us vs : List Token} {xs ys : List Word} → IsNames us xs → IsNames vs ys → IsArg (us ++ Tilde ∷ vs) (Formula xs ys)
+    formula : {us vs : List Token} {xs ys : List Word} → IsNames us xs → IsNames vs ys
+        → IsArg (us ++ Tilde ∷ vs) (Formula xs ys)
 
   -- [ arg { "," arg } ], where arg = [ name "=" ] (expr | names "~" names)
   pub data IsArgs : List Token → Args → Type 0 where
     none : IsArgs [] NoArgs
-    some : {us vs ws : List Token} {args : Args} {o : Option Word} {t : Tree} → IsBefore us args → IsTarget vs o → IsArg ws t → IsArgs (us ++ (vs ++ ws)) (MoreArgs args o t)
+    some : {us vs ws : List Token} {args : Args} {o : Option Word} {t : Tree} → IsBefore us args → IsTarget vs o
+        → IsArg ws t → IsArgs (us ++ (vs ++ ws)) (MoreArgs args o t)
 
   -- what stands before an argument: nothing, or arguments and a comma
   pub data IsBefore : List Token → Args → Type 0 where
     first : IsBefore [] NoArgs
-    later : {ts : List Token} {args : Args} {o : Option Word} {t : Tree} → IsArgs ts (MoreArgs args o t) → IsBefore (ts ++ Comma ∷ []) (MoreArgs args o t)
+    later : {ts : List Token} {args : Args} {o : Option Word} {t : Tree} → IsArgs ts (MoreArgs args o t)
+        → IsBefore (ts ++ Comma ∷ []) (MoreArgs args o t)
 
   -- empty | expr | expr ":=" expr, the last as j alone
   pub data IsItem : Bool → List Token → Item → Type 0 where
     empty : {j : Bool} → IsItem j [] Absent
     value : {j : Bool} {ts : List Token} {t : Tree} → IsExpr 0 ts t → IsItem j ts (item_of j t)
-    assigns : {us vs : List Token} {l r : Tree} → IsExpr 0 us l → IsExpr 0 vs r → IsItem true (us ++ Assign ∷ vs) (Assigns l r)
+    assigns : {us vs : List Token} {l r : Tree} → IsExpr 0 us l → IsExpr 0 vs r
+        → IsItem true (us ++ Assign ∷ vs) (Assigns l r)
 
   -- item { "," item }, where an item without a name, or name "=" expr
   pub data IsItems : List Token → Filled → Type 0 where
-    unnamed : {us vs : List Token} {f : Filled} {x : Item} → IsFilled us f → takes_unnamed f ≡ true → IsItem (is_j f) vs x → IsItems (us ++ vs) (with_item f x)
-    with : {us vs : List Token} {f : Filled} {t : Tree} (x : Word) → IsFilled us f → IsExpr 0 vs t → IsItems (us ++ Name x ∷ Is ∷ vs) (with_name f x t)
+    unnamed : {us vs : List Token} {f : Filled} {x : Item} → IsFilled us f → takes_unnamed f ≡ true
+        → IsItem (is_j f) vs x → IsItems (us ++ vs) (with_item f x)
+    with : {us vs : List Token} {f : Filled} {t : Tree} (x : Word) → IsFilled us f → IsExpr 0 vs t
+        → IsItems (us ++ Name x ∷ Is ∷ vs) (with_name f x t)
 
   -- what stands before an item: nothing, or items and a comma
   pub data IsFilled : List Token → Filled → Type 0 where
@@ -235,9 +253,12 @@ IsPrim = IsExpr prim
 pub data IsLines : List Token → List Stmt → ℕ → Type 0 where
   start : IsLines [] [] 1
   blank : {ts : List Token} {ss : List Stmt} {n : ℕ} (m : ℕ) → IsLines ts ss n → IsLines (ts ++ Break m ∷ []) ss m
-  line : {us vs ws : List Token} {ss : List Stmt} {n : ℕ} {o : Option Word} {t : Tree} (m : ℕ) → IsLines us ss n → IsLeft vs o → IsExpr 0 ws t → IsLines (us ++ (vs ++ (ws ++ Break m ∷ []))) (ss ++ record { line = n; target = o; expr = t } ∷ []) m
+  line : {us vs ws : List Token} {ss : List Stmt} {n : ℕ} {o : Option Word} {t : Tree} (m : ℕ) → IsLines us ss n
+      → IsLeft vs o → IsExpr 0 ws t → IsLines (us ++ (vs ++ (ws ++ Break m ∷ [])))
+      (ss ++ record { line = n; target = o; expr = t } ∷ []) m
 
 -- script = { [stmt] break } [stmt]
 pub data IsScript : List Token → List Stmt → Type 0 where
   ended : {ts : List Token} {ss : List Stmt} {n : ℕ} → IsLines ts ss n → IsScript ts ss
-  open_end : {us vs ws : List Token} {ss : List Stmt} {n : ℕ} {o : Option Word} {t : Tree} → IsLines us ss n → IsLeft vs o → IsExpr 0 ws t → IsScript (us ++ (vs ++ ws)) (ss ++ record { line = n; target = o; expr = t } ∷ [])
+  open_end : {us vs ws : List Token} {ss : List Stmt} {n : ℕ} {o : Option Word} {t : Tree} → IsLines us ss n
+      → IsLeft vs o → IsExpr 0 ws t → IsScript (us ++ (vs ++ ws)) (ss ++ record { line = n; target = o; expr = t } ∷ [])

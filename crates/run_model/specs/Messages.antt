@@ -9,7 +9,8 @@ use Rattle.std.specs.Prelude.{ℕ, ◌==◌, if◌then◌else◌, List, [], ◌�
 use Rattle.std.specs.List.{flat_map}
 use Rattle.dt_base.specs.declared.fault.Fault.{Fault}
 use Rattle.dt_base.specs.declared.fault.Code.{Code}
-use Rattle.dt_base.specs.declared.fault.Code.TheVariants.{E01, E02, E03, E04, E05, E06, E07, E08, E09, E10, E11, E12, E13, E14, E15, E16, E17, E18, E19, E20, E21, E22, E23, E24}
+use Rattle.dt_base.specs.declared.fault.Code.TheVariants.{E01, E02, E03, E04, E05, E06, E07, E08, E09, E10, E11, E12}
+use Rattle.dt_base.specs.declared.fault.Code.TheVariants.{E13, E14, E15, E16, E17, E18, E19, E20, E21, E22, E23, E24}
 use Rattle.dt_base.specs.declared.warns.Warn.{Warn}
 use Rattle.dt_base.specs.declared.warns.Warn.TheVariants.{W01, W02, W03, W04, W05, W06}
 use Rattle.dt_base.specs.declared.warns.Warns.{Warns}

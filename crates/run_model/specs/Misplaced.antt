@@ -9,7 +9,9 @@
 --   flags ss            the same of a script
 --   misplaced ts ss     the place of the first mark that stands wrong
 use Rattle.std.specs.Prelude.{ℕ, suc, Bool, true, false, not, List, [], ◌∷◌, ◌++◌, Option, Some, None, if◌then◌else◌}
-use Rattle.run_model.specs.GrammarTrees.{Word, Token, Name, Assign, OpenSquare, Tree, Lit, Var, Paren, Unary, Chain, Call, Query, Formula, Tails, NoTails, MoreTails, Args, NoArgs, MoreArgs, Item, Absent, Given, Assigns, AssignsAll, Brackets, NoBrackets, MoreBrackets, Stmt}
+use Rattle.run_model.specs.GrammarTrees.{Word, Token, Name, Assign, OpenSquare, Tree, Lit, Var, Paren, Unary, Chain}
+use Rattle.run_model.specs.GrammarTrees.{Call, Query, Formula, Tails, NoTails, MoreTails, Args, NoArgs, MoreArgs, Item}
+use Rattle.run_model.specs.GrammarTrees.{Absent, Given, Assigns, AssignsAll, Brackets, NoBrackets, MoreBrackets, Stmt}
 use Rattle.run_model.specs.Grammar.{is_assign}
 
 -- the token may stand wrong
@@ -65,7 +67,8 @@ abbrev mutual
 
   pub inner_brackets : Brackets → List Bool
   inner_brackets NoBrackets = []
-  inner_brackets (MoreBrackets before i j by args) = inner_brackets before ++ (false ∷ (inner_item i ++ (inner_item j ++ (inner_item by ++ inner_args args))))
+  inner_brackets (MoreBrackets before i j by args) = inner_brackets before
+      ++ (false ∷ (inner_item i ++ (inner_item j ++ (inner_item by ++ inner_args args))))
 
 -- how far an outermost chain has come: no assignment yet, one, or one and a bracket behind it
 pub data Stage : Type 0 where
@@ -102,7 +105,8 @@ is_empty _ _ _ _ = false
 -- a bracket of an outermost chain
 abbrev pub bracket_flags : Stage → Item → Item → Item → Args → List Bool
 bracket_flags Free i j by args = false ∷ (inner_item i ++ (j_flags j ++ (inner_item by ++ inner_args args)))
-bracket_flags Assigned i j by args = not (is_empty i j by args) ∷ (inner_item i ++ (inner_item j ++ (inner_item by ++ inner_args args)))
+bracket_flags Assigned i j by args = not (is_empty i j by args)
+    ∷ (inner_item i ++ (inner_item j ++ (inner_item by ++ inner_args args)))
 bracket_flags Over i j by args = true ∷ (inner_item i ++ (inner_item j ++ (inner_item by ++ inner_args args)))
 
 abbrev pub next_stage : Stage → Item → Stage

@@ -15,7 +15,8 @@
 --   element c                 a cell of a vector
 --   printed_vector kind cells a vector
 --   null_text                 NULL
-use Rattle.std.specs.Prelude.{ℕ, ◌+◌, ◌-◌, ◌==◌, nat_lt, nat_le, ◌||◌, Bool, true, false, if◌then◌else◌, max, List, [], ◌∷◌, ◌++◌, map, length, take, drop, replicate, slice_index_or, codes, decimal, count_by}
+use Rattle.std.specs.Prelude.{ℕ, ◌+◌, ◌-◌, ◌==◌, nat_lt, nat_le, ◌||◌, Bool, true, false, if◌then◌else◌, max, List, []}
+use Rattle.std.specs.Prelude.{◌∷◌, ◌++◌, map, length, take, drop, replicate, slice_index_or, codes, decimal, count_by}
 use Rattle.std.specs.Fmt.{signed_decimal}
 use Rattle.std.specs.List.{flat_map, range_with_len, join_with_byte}
 use Rattle.dt_base.specs.declared.cell.Cell.{Cell}

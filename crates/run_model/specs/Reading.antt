@@ -42,4 +42,5 @@ pub record IsReadAs (s : List ℕ) (script : Script) : Type 0 where
 -- line, after a byte order mark is dropped.
 pub data IsRefused (s : List ℕ) : ScriptFault → Type 0 where
   in_tokens : (f : ScriptFault) → HasFault s f → IsRefused s f
-  in_grammar : (us : List Placed) (n : ℕ) → AreTokens s us → IsFaultAt (plain_tokens us) n → IsRefused s (Syntax (fault_place (unmarked s) us n))
+  in_grammar : (us : List Placed) (n : ℕ) → AreTokens s us → IsFaultAt (plain_tokens us) n
+      → IsRefused s (Syntax (fault_place (unmarked s) us n))

@@ -7,7 +7,9 @@
 use Rattle.std.specs.Prelude.{ℕ, Bool, true, false, List, [], ◌∷◌, cond, nat_eq, Option, Some, None, codes}
 use Rattle.std.specs.List.{starts_with}
 use Rattle.dt_tree.specs.declared.token.Sign.{Sign}
-use Rattle.dt_tree.specs.declared.token.Sign.TheVariants.{In, Div, Mod, Arrow, Assign, Eq, Ne, Le, Ge, Open, Shut, OpenSquare, ShutSquare, Comma, Semi, Plus, Minus, Times, Lt, Gt, And, Or, Bang, Range, Tilde, Is}
+use Rattle.dt_tree.specs.declared.token.Sign.TheVariants.{In, Div, Mod, Arrow, Assign, Eq, Ne, Le, Ge, Open, Shut}
+use Rattle.dt_tree.specs.declared.token.Sign.TheVariants.{OpenSquare, ShutSquare, Comma, Semi, Plus, Minus, Times, Lt}
+use Rattle.dt_tree.specs.declared.token.Sign.TheVariants.{Gt, And, Or, Bang, Range, Tilde, Is}
 
 -- how each is written
 abbrev pub spelled : Sign → List ℕ
@@ -40,7 +42,8 @@ spelled Is = codes "="
 
 -- all of them, the longer ones first
 abbrev pub signs : List Sign
-signs = In ∷ Div ∷ Mod ∷ Arrow ∷ Assign ∷ Eq ∷ Ne ∷ Le ∷ Ge ∷ Open ∷ Shut ∷ OpenSquare ∷ ShutSquare ∷ Comma ∷ Semi ∷ Plus ∷ Minus ∷ Times ∷ Lt ∷ Gt ∷ And ∷ Or ∷ Bang ∷ Range ∷ Tilde ∷ Is ∷ []
+signs = In ∷ Div ∷ Mod ∷ Arrow ∷ Assign ∷ Eq ∷ Ne ∷ Le ∷ Ge ∷ Open ∷ Shut ∷ OpenSquare ∷ ShutSquare ∷ Comma ∷ Semi
+    ∷ Plus ∷ Minus ∷ Times ∷ Lt ∷ Gt ∷ And ∷ Or ∷ Bang ∷ Range ∷ Tilde ∷ Is ∷ []
 
 -- the first of these that a text begins with
 abbrev pub first_sign : List Sign → List ℕ → Option Sign

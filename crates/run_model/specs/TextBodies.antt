@@ -16,5 +16,7 @@ pub data IsBody : ℕ → List ℕ → List ℕ → Type 0 where
 
 -- A text that is found is a quote, a body and the quote again, and each such spelling is found.
 pub record TextsAreBodies : Type 0 where
-  pub found : (q : ℕ) (s ts : List ℕ) (n : ℕ) → q ≢ 92 → text_at (q ∷ s) ≡ Found (Spelled (Chr ts)) n → (bs rest : List ℕ) × (s ≡ bs ++ q ∷ rest) × IsBody q bs ts × (n ≡ length bs + 2)
-  pub every : (q : ℕ) (bs ts rest : List ℕ) → q ≢ 92 → IsBody q bs ts → text_at (q ∷ (bs ++ q ∷ rest)) ≡ Found (Spelled (Chr ts)) (length bs + 2)
+  pub found : (q : ℕ) (s ts : List ℕ) (n : ℕ) → q ≢ 92 → text_at (q ∷ s) ≡ Found (Spelled (Chr ts)) n
+      → (bs rest : List ℕ) × (s ≡ bs ++ q ∷ rest) × IsBody q bs ts × (n ≡ length bs + 2)
+  pub every : (q : ℕ) (bs ts rest : List ℕ) → q ≢ 92 → IsBody q bs ts
+      → text_at (q ∷ (bs ++ q ∷ rest)) ≡ Found (Spelled (Chr ts)) (length bs + 2)

@@ -25,7 +25,8 @@ pub record OneAnswer : Type 0 where
 -- where none is found it begins with none.
 pub record LongestSign : Type 0 where
   pub begins : (x : Sign) (s : List ℕ) → sign_at s ≡ Some x → s ≡ spelled x ++ drop (length (spelled x)) s
-  pub longest : (x y : Sign) (s rest : List ℕ) → sign_at s ≡ Some x → s ≡ spelled y ++ rest → length (spelled y) ≤ length (spelled x)
+  pub longest : (x y : Sign) (s rest : List ℕ) → sign_at s ≡ Some x → s ≡ spelled y ++ rest
+      → length (spelled y) ≤ length (spelled x)
   pub none : (y : Sign) (s rest : List ℕ) → sign_at s ≡ None → ¬ (s ≡ spelled y ++ rest)
 
 -- All bytes of the run are of the class, and the one behind it is not.
@@ -42,7 +43,8 @@ HeadOnLine n (u ∷ us) = u.at.line ≡ n
 -- argument is the number of brackets that are open before the tokens.
 abbrev pub BreaksLead : ℕ → List Placed → Type 0
 BreaksLead depth [] = Unit {0}
-BreaksLead depth (t ∷ ts) = (depth ≡ 0 → (n : ℕ) → t.token ≡ Break n → HeadOnLine n ts) × BreaksLead (deeper depth t.token) ts
+BreaksLead depth (t ∷ ts) = (depth ≡ 0 → (n : ℕ) → t.token ≡ Break n → HeadOnLine n ts)
+    × BreaksLead (deeper depth t.token) ts
 
 -- The first token of a text is on line 1, and each break outside brackets leads its line.
 abbrev pub BreaksLeadLines : Type 0

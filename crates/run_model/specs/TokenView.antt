@@ -15,7 +15,8 @@ use Rattle.dt_tree.specs.declared.token.Sign.TheVariants as sign
 use Rattle.dt_tree.specs.declared.token.Token as token_type
 use Rattle.dt_tree.specs.declared.token.Token.TheVariants as token
 use Rattle.dt_tree.specs.declared.token.Placed.{Placed}
-use Rattle.run_model.specs.GrammarTrees.{Value, Typed, Null, Infinite, Token, Name, Literal, Operator, Bang, Tilde, Assign, Arrow, Is, Open, Shut, OpenSquare, ShutSquare, Comma, Break, Semicolon}
+use Rattle.run_model.specs.GrammarTrees.{Value, Typed, Null, Infinite, Token, Name, Literal, Operator, Bang, Tilde}
+use Rattle.run_model.specs.GrammarTrees.{Assign, Arrow, Is, Open, Shut, OpenSquare, ShutSquare, Comma, Break, Semicolon}
 
 -- the literal that a word is
 abbrev pub value_of : literal_type.Literal → Value

@@ -15,7 +15,8 @@
 --   too_deep n ts         the first of the tokens ts with which more than 64 brackets are open
 --   AreTokens s ts        the script s is the tokens ts
 --   HasFault s f          the script s has the fault f as its first
-use Rattle.std.specs.Prelude.{◌≡◌, ℕ, ◌+◌, ◌-◌, ◌<◌, Bool, false, List, [], ◌∷◌, ◌++◌, length, drop, if◌then◌else◌, not, ◌&&◌, ◌==◌, Option, Some, None, IsUtf8, nat_eq, nat_lt}
+use Rattle.std.specs.Prelude.{◌≡◌, ℕ, ◌+◌, ◌-◌, ◌<◌, Bool, false, List, [], ◌∷◌, ◌++◌, length, drop, if◌then◌else◌, not}
+use Rattle.std.specs.Prelude.{◌&&◌, ◌==◌, Option, Some, None, IsUtf8, nat_eq, nat_lt}
 use Rattle.std.specs.List.{starts_with}
 use Rattle.dt_tree.specs.declared.token.Place.{Place}
 use Rattle.dt_tree.specs.declared.token.Sign.TheVariants as sign
@@ -129,5 +130,6 @@ pub record AreTokens (script : List ℕ) (ts : List Placed) : Type 0 where
 -- nest too deep.
 abbrev pub HasFault : List ℕ → ScriptFault → Type 0
 HasFault script NotUtf8 = ¬ IsUtf8 script
-HasFault script (TooDeep at) = IsUtf8 script × (ts : List Placed) × Spells (unmarked script) ts × (too_deep 0 ts ≡ Some at)
+HasFault script (TooDeep at) = IsUtf8 script × (ts : List Placed) × Spells (unmarked script) ts
+    × (too_deep 0 ts ≡ Some at)
 HasFault script f = IsUtf8 script × IsFirstFault (unmarked script) f

@@ -20,7 +20,9 @@ use Rattle.dt_tree.specs.declared.tree.Second.{Second}
 use Rattle.dt_tree.specs.declared.tree.BinOp.{BinOp}
 use Rattle.dt_tree.specs.declared.tree.Stmt as stmt_type
 use Rattle.dt_tree.specs.declared.tree.Script as script_type
-use Rattle.run_model.specs.GrammarTrees.{Word, Typed, Null, Infinite, Not, Negate, Tree, Lit, Var, Paren, Unary, Chain, Call, Query, Formula, Tails, NoTails, MoreTails, Args, NoArgs, MoreArgs, Item, Absent, Given, Assigns, AssignsAll, Brackets, NoBrackets, MoreBrackets, Stmt}
+use Rattle.run_model.specs.GrammarTrees.{Word, Typed, Null, Infinite, Not, Negate, Tree, Lit, Var, Paren, Unary, Chain}
+use Rattle.run_model.specs.GrammarTrees.{Call, Query, Formula, Tails, NoTails, MoreTails, Args, NoArgs, MoreArgs, Item}
+use Rattle.run_model.specs.GrammarTrees.{Absent, Given, Assigns, AssignsAll, Brackets, NoBrackets, MoreBrackets, Stmt}
 
 -- an argument, an operator with its right side, and a bracket, each with the trees of its parts
 abbrev pub ArgTree : Type 0
@@ -65,7 +67,12 @@ abbrev pub arg_step : Arg-F Tree Item ArgTree BracketTree TailTree → ArgTree
 arg_step a = (a.name, a.value)
 
 abbrev pub bracket_step : Bracket-F Tree Item ArgTree BracketTree TailTree → BracketTree
-bracket_step b = record { first = given b.first; second = item_in b.second; third = given b.third; args = args_from NoArgs b.args }
+bracket_step b = record {
+  first = given b.first;
+  second = item_in b.second;
+  third = given b.third;
+  args = args_from NoArgs b.args;
+}
 
 abbrev pub second_step : Second-F Tree Item ArgTree BracketTree TailTree → Item
 second_step (layer.Value t) = Given t
@@ -91,7 +98,8 @@ tree_of = fold-Expr Tree Item ArgTree BracketTree TailTree expr_step second_step
 
 -- what stands at j
 unfoldable pub item_of_second : Second → Item
-item_of_second = fold-Second Tree Item ArgTree BracketTree TailTree expr_step second_step arg_step bracket_step tail_step
+item_of_second = fold-Second Tree Item ArgTree BracketTree TailTree expr_step second_step arg_step
+    bracket_step tail_step
 
 -- an argument
 unfoldable pub arg_of : Arg → ArgTree

@@ -6,8 +6,13 @@ use Rattle.dt_tree.specs.declared.token.Sign.TheVariants as sign
 use Rattle.dt_tree.specs.declared.token.Token as token_type
 use Rattle.dt_tree.specs.declared.token.Token.TheVariants as token
 use Rattle.dt_tree.specs.declared.tree.BinOp.TheVariants.{Arith}
-use Rattle.run_model.specs.GrammarTrees.{Word, Prefix, Not, Negate, Token, Name, Operator, Tilde, Assign, Is, Open, Shut, OpenSquare, ShutSquare, Comma, Tree, Tails, Args, Item, Brackets}
-use Rattle.run_model.specs.Grammar.{prefix_token, Filled, IsTarget, without, named, IsLeft, plain, arrow, IsNames, name, names, IsExpr, higher, chain, unary, bracket, literal, var, call, paren, IsTails, one, again, IsHead, bare, behind, IsArg, expr, formula, IsArgs, none, some, IsBefore, first, later, IsItem, empty, value, assigns, IsItems, unnamed, with, IsFilled, begin, comma}
+use Rattle.run_model.specs.GrammarTrees.{Word, Prefix, Not, Negate, Token, Name, Operator, Tilde, Assign, Is, Open}
+use Rattle.run_model.specs.GrammarTrees.{Shut, OpenSquare, ShutSquare, Comma, Tree, Tails, Args, Item, Brackets}
+use Rattle.run_model.specs.Grammar.{prefix_token, Filled, IsTarget, without, named, IsLeft, plain, arrow, IsNames, name}
+use Rattle.run_model.specs.Grammar.{names, IsExpr, higher, chain, unary, bracket, literal, var, call, paren, IsTails}
+use Rattle.run_model.specs.Grammar.{one, again, IsHead, bare, behind, IsArg, expr, formula, IsArgs, none, some}
+use Rattle.run_model.specs.Grammar.{IsBefore, first, later, IsItem, empty, value, assigns, IsItems, unnamed, with}
+use Rattle.run_model.specs.Grammar.{IsFilled, begin, comma}
 use Rattle.run_model.specs.TokenView.{plain_token, plain_tokens}
 use Rattle.run_model.specs.Tokens.{deeper}
 use Rattle.run_model.specs.TokenLaws.{BreaksLead}
@@ -71,7 +76,8 @@ mutual
   flat (higher d) n = flat d n
   flat (chain {us = us} {vs} d e) n = both us vs (flat d) (flat_tails e) n
   flat (unary {ts} p d) n = flat_prefix p ts (flat d) n
-  flat (bracket {us} {vs} d e) n = both us (OpenSquare ∷ (vs ++ ShutSquare ∷ [])) (flat_head d) (in_square vs (flat_items e)) n
+  flat (bracket {us} {vs} d e) n = both us (OpenSquare ∷ (vs ++ ShutSquare ∷ [])) (flat_head d)
+      (in_square vs (flat_items e)) n
   flat literal n = refl
   flat var n = refl
   flat (call {ts = ts} d) n = inside ts (flat_args d) n
@@ -91,7 +97,8 @@ mutual
 
   flat_args : {ts : List Token} {args : Args} → IsArgs ts args → IsFlat ts
   flat_args none n = refl
-  flat_args (some {us} {vs} {ws} b a d) n = both us (vs ++ ws) (flat_before b) (both vs ws (flat_target a) (flat_arg d)) n
+  flat_args (some {us} {vs} {ws} b a d) n =
+      both us (vs ++ ws) (flat_before b) (both vs ws (flat_target a) (flat_arg d)) n
 
   flat_before : {ts : List Token} {args : Args} → IsBefore ts args → IsFlat ts
   flat_before first n = refl
@@ -146,14 +153,17 @@ same_deep n (token.Sign sign.Is) = refl
 
 passed : (us rest : List Placed) (n : ℕ) → BreaksLead n (us ++ rest) → BreaksLead (depth n (plain_tokens us)) rest
 passed [] rest n b = b
-passed (u ∷ us) rest n b = subst (λ k. BreaksLead (depth k (plain_tokens us)) rest) (same_deep n u.token) (passed us rest (deeper n u.token) b.1)
+passed (u ∷ us) rest n b = subst (λ k. BreaksLead (depth k (plain_tokens us)) rest) (same_deep n u.token)
+    (passed us rest (deeper n u.token) b.1)
 
 -- what is said of breaks, behind tokens that leave no bracket open
-pub passed_flat : (us rest : List Placed) (n : ℕ) → IsFlat (plain_tokens us) → BreaksLead n (us ++ rest) → BreaksLead n rest
+pub passed_flat : (us rest : List Placed) (n : ℕ) → IsFlat (plain_tokens us) → BreaksLead n (us ++ rest)
+    → BreaksLead n rest
 unfolding IsFlat
 passed_flat us rest n f b = subst (λ k. BreaksLead k rest) (f n) (passed us rest n b)
 
-pub flat_stmt : {vs ws : List Token} {o : Option Word} {k : ℕ} {t : Tree} → IsLeft vs o → IsExpr k ws t → IsFlat (vs ++ ws)
+pub flat_stmt : {vs ws : List Token} {o : Option Word} {k : ℕ} {t : Tree} → IsLeft vs o → IsExpr k ws t
+    → IsFlat (vs ++ ws)
 flat_stmt {vs} {ws} l d = both vs ws (flat_left l) (flat d)
 
 pub flat_part : (us : List Placed) (ts : List Token) → plain_tokens us ≡ ts → IsFlat ts → IsFlat (plain_tokens us)

@@ -10,7 +10,9 @@
 use Rattle.std.specs.Prelude.{◌≡◌, ◌↔◌, ◌⊎◌, true, false, List, None}
 use Rattle.std.specs.List.{All}
 use Rattle.run_model.specs.Grammar.{is_assign, IsScript}
-use Rattle.run_model.specs.GrammarTrees.{Token, Tree, Lit, Var, Paren, Unary, Chain, Call, Query, Formula, Tails, NoTails, MoreTails, Args, NoArgs, MoreArgs, Item, Absent, Given, Assigns, AssignsAll, Brackets, NoBrackets, MoreBrackets, Stmt}
+use Rattle.run_model.specs.GrammarTrees.{Token, Tree, Lit, Var, Paren, Unary, Chain, Call, Query, Formula, Tails}
+use Rattle.run_model.specs.GrammarTrees.{NoTails, MoreTails, Args, NoArgs, MoreArgs, Item, Absent, Given, Assigns}
+use Rattle.run_model.specs.GrammarTrees.{AssignsAll, Brackets, NoBrackets, MoreBrackets, Stmt}
 use Rattle.run_model.specs.Misplaced.{are_pairs, is_empty, misplaced}
 
 abbrev mutual
@@ -42,7 +44,8 @@ abbrev mutual
 
   pub NoneInBrackets : Brackets → Type 0
   NoneInBrackets NoBrackets = Unit {0}
-  NoneInBrackets (MoreBrackets before i j by args) = NoneInBrackets before × NoneInItem i × NoneInItem j × NoneInItem by × NoneInArgs args
+  NoneInBrackets (MoreBrackets before i j by args) = NoneInBrackets before × NoneInItem i × NoneInItem j × NoneInItem by
+      × NoneInArgs args
 
 -- An assignment is `l := r`, or the call of `:=` with one argument or more, each with a name.
 abbrev pub IsAssignment : Item → Type 0
@@ -54,7 +57,8 @@ IsAssignment (AssignsAll args) = (are_pairs args ≡ true) × NoneInArgs args
 -- The j of the last bracket is an assignment, and nothing before it or beside it has one.
 abbrev pub AssignsLast : Brackets → Type 0
 AssignsLast NoBrackets = ⊥
-AssignsLast (MoreBrackets before i j by args) = NoneInBrackets before × NoneInItem i × IsAssignment j × NoneInItem by × NoneInArgs args
+AssignsLast (MoreBrackets before i j by args) = NoneInBrackets before × NoneInItem i × IsAssignment j × NoneInItem by
+    × NoneInArgs args
 
 -- Nothing stands in the last bracket, and the one before it assigns.
 abbrev pub AssignsBeforeEmpty : Brackets → Type 0
@@ -64,7 +68,8 @@ AssignsBeforeEmpty (MoreBrackets before i j by args) = AssignsLast before × (is
 -- A statement's expression has no assignment; or it is a chain of brackets of which one assigns,
 -- and behind that one stands nothing or one empty bracket.
 abbrev pub StandsRight : Tree → Type 0
-StandsRight (Query t brackets) = HasNoAssignment t × (NoneInBrackets brackets ⊎ (AssignsLast brackets ⊎ AssignsBeforeEmpty brackets))
+StandsRight (Query t brackets) = HasNoAssignment t
+    × (NoneInBrackets brackets ⊎ (AssignsLast brackets ⊎ AssignsBeforeEmpty brackets))
 StandsRight t = HasNoAssignment t
 
 -- Each statement's expression stands right.

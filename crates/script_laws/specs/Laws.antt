@@ -36,4 +36,5 @@ pub record Begins (us : List Placed) (before : List Stmt) (x : Stmt) : Type 0 wh
 
 -- In the tokens of a text each statement begins with a token on its line.
 abbrev pub StatementsLeadLines : Type 0
-StatementsLeadLines = (s : List ℕ) (us : List Placed) (before after : List Stmt) (x : Stmt) → Spells s us → IsScript (plain_tokens us) (before ++ x ∷ after) → Begins us before x
+StatementsLeadLines = (s : List ℕ) (us : List Placed) (before after : List Stmt) (x : Stmt) → Spells s us
+    → IsScript (plain_tokens us) (before ++ x ∷ after) → Begins us before x

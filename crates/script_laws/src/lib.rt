@@ -2,7 +2,8 @@
 //!
 //! - `one_reading`: bytes are one script at most, or have one first fault, and not both.
 //! - `statements_lead_lines`: a statement stands on the line of its first token.
-//! - `none_misplaced`: no token stands wrong exactly where each statement's assignments stand right.
+//! - `none_misplaced`: no token stands wrong exactly where each statement's assignments stand
+//!   right.
 //!
 //! It stands on the laws of tokens (`dt_tokens`) and the lemmas of the grammar (`dt_grammar`). It
 //! runs nothing but its laws.

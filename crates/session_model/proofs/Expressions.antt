@@ -1,6 +1,7 @@
 -- Examples of the definitions, each computed. An expression stands by its meaning, which is made of
 -- the meanings of its parts.
-use Rattle.std.proofs.Common.{◌≡◌, ℕ, ℤ, pos, negsuc, Bool, true, false, cond, List, [], ◌∷◌, Option, None, Some, Result, Ok, Err, refl, codes}
+use Rattle.std.proofs.Common.{◌≡◌, ℕ, ℤ, pos, negsuc, Bool, true, false, cond, List, [], ◌∷◌, Option, None, Some}
+use Rattle.std.proofs.Common.{Result, Ok, Err, refl, codes}
 use Rattle.std.specs.Fmt.{signed_decimal}
 use Rattle.std.specs.Str.{bytes_eq}
 use Rattle.dt_base.specs.Fault.{fault}
@@ -125,6 +126,7 @@ outside = record {
   places = [];
   count = 0;
   group = 0;
+  sd = [];
   vars = script_names;
 }
 
@@ -140,6 +142,7 @@ bracket = record {
   places = Some 0 ∷ Some 1 ∷ None ∷ [];
   count = 3;
   group = 0;
+  sd = [];
   vars = script_names;
 }
 
@@ -149,7 +152,8 @@ abbrev a : Meaning
 a = Name (codes "a")
 
 -- a > 0L | b
-a_positive_or_b : value_in (two (two a (Arith Gt) (int (pos 0))) (Arith Or) (Name (codes "b"))) bracket ≡ plain ty.Lgl (is.Lgl true ∷ is.Na ∷ is.Lgl false ∷ [])
+a_positive_or_b : value_in (two (two a (Arith Gt) (int (pos 0))) (Arith Or) (Name (codes "b"))) bracket
+    ≡ plain ty.Lgl (is.Lgl true ∷ is.Na ∷ is.Lgl false ∷ [])
 a_positive_or_b = refl
 
 -- a %/% 2L
@@ -161,7 +165,8 @@ remainders : value_in (two a (Arith Mod) (neg (pos 3))) bracket ≡ plain ty.Int
 remainders = refl
 
 -- c(3L, 0L, 9L)
-three_places : value_in (combine (unnamed (int (pos 3)) ∷ unnamed (int (pos 0)) ∷ unnamed (int (pos 9)) ∷ [])) bracket ≡ plain ty.Int (n 3 ∷ n 0 ∷ n 9 ∷ [])
+three_places : value_in (combine (unnamed (int (pos 3)) ∷ unnamed (int (pos 0)) ∷ unnamed (int (pos 9)) ∷ [])) bracket
+    ≡ plain ty.Int (n 3 ∷ n 0 ∷ n 9 ∷ [])
 three_places = refl
 
 -- -7L:-5L
@@ -173,19 +178,24 @@ falling : value_in (two (int (pos 1)) Range (neg (pos 1))) outside ≡ plain ty.
 falling = refl
 
 -- c(1L, 2L) + c(1L, 2L, 3L)
-other_lengths : value_in (two (combine (unnamed (int (pos 1)) ∷ unnamed (int (pos 2)) ∷ [])) (Arith Add) (combine (unnamed (int (pos 1)) ∷ unnamed (int (pos 2)) ∷ unnamed (int (pos 3)) ∷ []))) outside ≡ Err (length_fault 3 2)
+other_lengths : value_in (two (combine (unnamed (int (pos 1)) ∷ unnamed (int (pos 2)) ∷ [])) (Arith Add)
+    (combine (unnamed (int (pos 1)) ∷ unnamed (int (pos 2)) ∷ unnamed (int (pos 3)) ∷ []))) outside
+    ≡ Err (length_fault 3 2)
 other_lengths = refl
 
 -- the lengths do not concern the types
-other_lengths_check : check_of (two (combine (unnamed (int (pos 1)) ∷ unnamed (int (pos 2)) ∷ [])) (Arith Add) (combine (unnamed (int (pos 1)) ∷ unnamed (int (pos 2)) ∷ unnamed (int (pos 3)) ∷ []))) outside ≡ Ok ty.Int
+other_lengths_check : check_of (two (combine (unnamed (int (pos 1)) ∷ unnamed (int (pos 2)) ∷ [])) (Arith Add)
+    (combine (unnamed (int (pos 1)) ∷ unnamed (int (pos 2)) ∷ unnamed (int (pos 3)) ∷ []))) outside ≡ Ok ty.Int
 other_lengths_check = refl
 
 -- 1L + "a" - TRUE
-text_in_a_sum : check_of (Chain (int (pos 1)) (record { op = Arith Add; means = text (codes "a") } ∷ record { op = Arith Sub; means = lgl true } ∷ [])) outside ≡ Err (fault E04 (codes "+"))
+text_in_a_sum : check_of (Chain (int (pos 1)) (record { op = Arith Add; means = text (codes "a") } ∷ record
+    { op = Arith Sub; means = lgl true } ∷ [])) outside ≡ Err (fault E04 (codes "+"))
 text_in_a_sum = refl
 
 -- 9223372036854775807L + 1L
-past_the_greatest : value_in (two (int (pos 9223372036854775807)) (Arith Add) (int (pos 1))) outside ≡ Err (fault E06 (codes "+"))
+past_the_greatest : value_in (two (int (pos 9223372036854775807)) (Arith Add) (int (pos 1))) outside
+    ≡ Err (fault E06 (codes "+"))
 past_the_greatest = refl
 
 -- a %in% NA
@@ -196,7 +206,8 @@ member_of_na = refl
 range_of_na : value_in (two na Range (int (pos 3))) outside ≡ Err (fault E19 (codes ":"))
 range_of_na = refl
 
-range_of_two : value_in (two (combine (unnamed (int (pos 1)) ∷ unnamed (int (pos 2)) ∷ [])) Range (int (pos 3))) outside ≡ Err (length_fault 2 1)
+range_of_two : value_in (two (combine (unnamed (int (pos 1)) ∷ unnamed (int (pos 2)) ∷ [])) Range (int (pos 3)))
+    outside ≡ Err (length_fault 2 1)
 range_of_two = refl
 
 range_of_text : check_of (two (text (codes "a")) Range (int (pos 3))) outside ≡ Err (fault E04 (codes ":"))
@@ -252,25 +263,34 @@ count_outside : check_of (Name (codes ".N")) outside ≡ Err (fault E02 (codes "
 count_outside = refl
 
 -- a column of the shared row comes before one of the rows
-shared_row_first : value_in a (record bracket { single = record { names = codes "a" ∷ []; vectors = ints (n 4 ∷ []) ∷ [] } }) ≡ plain ty.Int (n 4 ∷ [])
+shared_row_first : value_in a (record bracket {
+  single = record
+      { names = codes "a" ∷ []; vectors = ints (n 4 ∷ []) ∷ [] };
+}) ≡ plain ty.Int (n 4 ∷ [])
 shared_row_first = refl
 
 -- ---- Functions
 
 -- fifelse(c(TRUE, NA, FALSE), c(1L, 2L, 3L), 0L)
-choice : value_in (Call (codes "fifelse") (unnamed (combine (unnamed (lgl true) ∷ unnamed na ∷ unnamed (lgl false) ∷ [])) ∷ unnamed (combine (unnamed (int (pos 1)) ∷ unnamed (int (pos 2)) ∷ unnamed (int (pos 3)) ∷ [])) ∷ unnamed (int (pos 0)) ∷ [])) outside ≡ plain ty.Int (n 1 ∷ is.Na ∷ n 0 ∷ [])
+choice : value_in (Call (codes "fifelse") (unnamed (combine
+    (unnamed (lgl true) ∷ unnamed na ∷ unnamed (lgl false) ∷ [])) ∷ unnamed
+    (combine (unnamed (int (pos 1)) ∷ unnamed (int (pos 2)) ∷ unnamed (int (pos 3)) ∷ [])) ∷ unnamed (int (pos 0)) ∷
+    [])) outside ≡ plain ty.Int (n 1 ∷ is.Na ∷ n 0 ∷ [])
 unfolding value_of
 choice = refl
 
 -- c(u, "z"), and c(TRUE, 1L, "a"), whose cells all are brought to texts at once
-text_joins : value_in (combine (unnamed (Name (codes "u")) ∷ unnamed (text (codes "z")) ∷ [])) outside ≡ plain ty.Chr (is.Text (signed_decimal (pos 7)) ∷ is.Text (codes "z") ∷ [])
+text_joins : value_in (combine (unnamed (Name (codes "u")) ∷ unnamed (text (codes "z")) ∷ [])) outside
+    ≡ plain ty.Chr (is.Text (signed_decimal (pos 7)) ∷ is.Text (codes "z") ∷ [])
 text_joins = refl
 
-one_type_for_all : value_in (combine (unnamed (lgl true) ∷ unnamed (int (pos 1)) ∷ unnamed (text (codes "a")) ∷ [])) outside ≡ plain ty.Chr (is.Text (codes "TRUE") ∷ is.Text (signed_decimal (pos 1)) ∷ is.Text (codes "a") ∷ [])
+one_type_for_all : value_in (combine (unnamed (lgl true) ∷ unnamed (int (pos 1)) ∷ unnamed (text (codes "a")) ∷ []))
+    outside ≡ plain ty.Chr (is.Text (codes "TRUE") ∷ is.Text (signed_decimal (pos 1)) ∷ is.Text (codes "a") ∷ [])
 one_type_for_all = refl
 
 -- as.integer("q"), with a warning that stays in a sum
-conversion_warns : value_in (two (Call (codes "as.integer") (unnamed (text (codes "q")) ∷ [])) (Arith Add) (int (pos 1))) outside ≡ warned (record no_warns { w02 = true }) ty.Int (is.Na ∷ [])
+conversion_warns : value_in (two (Call (codes "as.integer") (unnamed (text (codes "q")) ∷ [])) (Arith Add)
+    (int (pos 1))) outside ≡ warned (record no_warns { w02 = true }) ty.Int (is.Na ∷ [])
 unfolding value_of
 conversion_warns = refl
 
@@ -279,14 +299,17 @@ sum_meets_na : value_in (Call (codes "sum") (unnamed a ∷ [])) bracket ≡ plai
 unfolding value_of
 sum_meets_na = refl
 
-sum_without_na : value_in (Call (codes "sum") (named (codes "na.rm") (lgl true) ∷ unnamed a ∷ [])) bracket ≡ plain ty.Int (m 1 ∷ [])
+sum_without_na : value_in (Call (codes "sum") (named (codes "na.rm") (lgl true) ∷ unnamed a ∷ [])) bracket
+    ≡ plain ty.Int (m 1 ∷ [])
 unfolding value_of
 sum_without_na = refl
 
-no_flag : check_of (Call (codes "sum") (unnamed a ∷ named (codes "na.rm") (int (pos 1)) ∷ [])) bracket ≡ Err (fault E19 (codes "na.rm"))
+no_flag : check_of (Call (codes "sum") (unnamed a ∷ named (codes "na.rm") (int (pos 1)) ∷ [])) bracket
+    ≡ Err (fault E19 (codes "na.rm"))
 no_flag = refl
 
-form_before_type : check_of (Call (codes "sum") (unnamed (text (codes "a")) ∷ named (codes "na.rm") (int (pos 3)) ∷ [])) outside ≡ Err (fault E19 (codes "na.rm"))
+form_before_type : check_of (Call (codes "sum") (unnamed (text (codes "a")) ∷ named (codes "na.rm") (int (pos 3)) ∷
+    [])) outside ≡ Err (fault E19 (codes "na.rm"))
 form_before_type = refl
 
 sum_of_text : check_of (Call (codes "sum") (unnamed (text (codes "a")) ∷ [])) outside ≡ Err (fault E04 (codes "sum"))
@@ -294,7 +317,8 @@ unfolding type_of
 sum_of_text = refl
 
 -- sum(z, foo = 1L): the binding comes before the arguments
-binding_first : check_of (Call (codes "sum") (unnamed (Name (codes "z")) ∷ named (codes "foo") (int (pos 1)) ∷ [])) bracket ≡ Err (fault E19 (codes "foo"))
+binding_first : check_of (Call (codes "sum") (unnamed (Name (codes "z")) ∷ named (codes "foo") (int (pos 1)) ∷ []))
+    bracket ≡ Err (fault E19 (codes "foo"))
 binding_first = refl
 
 -- c(), c(a = 1L), sum(NULL), Inf
@@ -314,36 +338,42 @@ infinite = refl
 unknown_function : check_of (Call (codes "nosuch") []) outside ≡ Err (fault E02 (codes "nosuch"))
 unknown_function = refl
 
-list_is_no_vector : check_of (Call (codes "list") (unnamed (Name (codes "z")) ∷ [])) bracket ≡ Err (fault E04 (codes "list"))
+list_is_no_vector : check_of (Call (codes "list") (unnamed (Name (codes "z")) ∷ [])) bracket
+    ≡ Err (fault E04 (codes "list"))
 list_is_no_vector = refl
 
 table_function : check_of (Call (codes "fread") []) outside ≡ Err (fault E04 (codes "fread"))
 table_function = refl
 
-command_in_an_expression : check_of (Call (codes "print") (unnamed (Name (codes "z")) ∷ [])) bracket ≡ Err (fault E19 (codes "print"))
+command_in_an_expression : check_of (Call (codes "print") (unnamed (Name (codes "z")) ∷ [])) bracket
+    ≡ Err (fault E19 (codes "print"))
 command_in_an_expression = refl
 
 -- nrow(D), names(D), nrow((D)), nrow(z), nrow(u), and nrow(a) of a column a
 rows_of_d : value_in (Call (codes "nrow") (unnamed (Name (codes "D")) ∷ [])) outside ≡ plain ty.Int (n 2 ∷ [])
 rows_of_d = refl
 
-names_of_d : value_in (Call (codes "names") (named (codes "D") (Name (codes "D")) ∷ [])) bracket ≡ plain ty.Chr (is.Text (codes "v") ∷ [])
+names_of_d : value_in (Call (codes "names") (named (codes "D") (Name (codes "D")) ∷ [])) bracket
+    ≡ plain ty.Chr (is.Text (codes "v") ∷ [])
 names_of_d = refl
 
-in_parentheses : check_of (Call (codes "nrow") (unnamed (Paren (Name (codes "D"))) ∷ [])) outside ≡ Err (fault E19 (codes "D"))
+in_parentheses : check_of (Call (codes "nrow") (unnamed (Paren (Name (codes "D"))) ∷ [])) outside
+    ≡ Err (fault E19 (codes "D"))
 in_parentheses = refl
 
 unbound_table : check_of (Call (codes "nrow") (unnamed (Name (codes "z")) ∷ [])) bracket ≡ Err (fault E02 (codes "z"))
 unbound_table = refl
 
-vector_as_a_table : check_of (Call (codes "nrow") (unnamed (Name (codes "a")) ∷ [])) bracket ≡ Err (fault E20 (codes "a"))
+vector_as_a_table : check_of (Call (codes "nrow") (unnamed (Name (codes "a")) ∷ [])) bracket
+    ≡ Err (fault E20 (codes "a"))
 vector_as_a_table = refl
 
 -- z + y: the left fault is the first; sum(1L + "a") + z: the inner one is
 left_first : check_of (two (Name (codes "z")) (Arith Add) (Name (codes "y"))) bracket ≡ Err (fault E03 (codes "z"))
 left_first = refl
 
-inner_first : check_of (Call (codes "sum") (unnamed (two (int (pos 1)) (Arith Add) (text (codes "a"))) ∷ [])) bracket ≡ Err (fault E04 (codes "+"))
+inner_first : check_of (Call (codes "sum") (unnamed (two (int (pos 1)) (Arith Add) (text (codes "a"))) ∷ [])) bracket
+    ≡ Err (fault E04 (codes "+"))
 inner_first = refl
 
 -- D[]

@@ -16,18 +16,22 @@ pub onto_nothing : {B : Type 0} (r : Result (List B) Fault) → r ≡ onto [] r
 onto_nothing (Ok more) = refl
 onto_nothing (Err f) = refl
 
-one_more : {B : Type 0} (done : List B) (y : B) (r : Result (List B) Fault) → onto done (then_do r (λ more. Ok (y ∷ more))) ≡ onto (done ++ y ∷ []) r
+one_more : {B : Type 0} (done : List B) (y : B) (r : Result (List B) Fault)
+    → onto done (then_do r (λ more. Ok (y ∷ more))) ≡ onto (done ++ y ∷ []) r
 one_more done y (Ok more) = ap Ok (sym (append_assoc done (y ∷ []) more))
 one_more done y (Err f) = refl
 
 module _ {A B : Type 0} (f : A → Result B Fault) (whole : Result (List B) Fault) (done : List B) where
   -- one more was done
-  pub each_next : (x : A) (rest : List A) (y : B) → whole ≡ onto done (each f (x ∷ rest)) → f x ≡ Ok y → whole ≡ onto (done ++ y ∷ []) (each f rest)
+  pub each_next : (x : A) (rest : List A) (y : B) → whole ≡ onto done (each f (x ∷ rest)) → f x ≡ Ok y → whole
+      ≡ onto (done ++ y ∷ []) (each f rest)
   each_next x rest y h e =
-      h ∙ (ap (λ o. onto done (then_do o (λ z. then_do (each f rest) (λ more. Ok (z ∷ more))))) e ∙ one_more done y (each f rest))
+      h ∙ (ap (λ o. onto done (then_do o (λ z. then_do (each f rest) (λ more. Ok (z ∷ more))))) e
+      ∙ one_more done y (each f rest))
 
   -- the next one's fault is the fault of all
-  pub each_refused : (x : A) (rest : List A) (e : Fault) → whole ≡ onto done (each f (x ∷ rest)) → f x ≡ Err e → whole ≡ Err e
+  pub each_refused : (x : A) (rest : List A) (e : Fault) → whole ≡ onto done (each f (x ∷ rest)) → f x ≡ Err e → whole
+      ≡ Err e
   each_refused x rest e h k = h ∙ ap (λ o. onto done (then_do o (λ z. then_do (each f rest) (λ more. Ok (z ∷ more))))) k
 
   -- all were done
@@ -71,7 +75,8 @@ both_assoc s t u = λ j. record {
 }
 
 -- one more was joined
-pub warns_next : (whole all w : Warns) (rest : List Warns) → whole ≡ both_warns all (all_warns (w ∷ rest)) → whole ≡ both_warns (both_warns all w) (all_warns rest)
+pub warns_next : (whole all w : Warns) (rest : List Warns) → whole ≡ both_warns all (all_warns (w ∷ rest)) → whole
+    ≡ both_warns (both_warns all w) (all_warns rest)
 warns_next whole all w rest h = h ∙ both_assoc all w (all_warns rest)
 
 pub ruleset warnings = (none_first, none_last, warns_next)

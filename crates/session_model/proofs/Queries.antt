@@ -1,6 +1,7 @@
 -- Examples of what brackets give, each computed. A bracket stands by its meaning, over a table of the
 -- columns a = 5, NA, -7 and b = TRUE, NA, FALSE; of the script's names x is 2, 3, and D a table.
-use Rattle.std.proofs.Common.{◌≡◌, ℕ, ℤ, pos, negsuc, true, false, cond, List, [], ◌∷◌, Option, None, Some, Result, Ok, Err, refl, codes}
+use Rattle.std.proofs.Common.{◌≡◌, ℕ, ℤ, pos, negsuc, true, false, cond, List, [], ◌∷◌, Option, None, Some, Result}
+use Rattle.std.proofs.Common.{Ok, Err, refl, codes}
 use Rattle.std.specs.Str.{bytes_eq}
 use Rattle.dt_base.specs.Fault.{fault}
 use Rattle.dt_base.specs.Warns.{no_warns}
@@ -20,7 +21,8 @@ use Rattle.expr_model.specs.Surroundings.{Var, Table, Vector}
 use Rattle.session_model.specs.Meaning.{expr_step}
 use Rattle.session_model.specs.Meanings.{Answer, Meaning, ArgMeaning, TailMeaning, Computes, BracketMeaning}
 use Rattle.session_model.specs.Meanings as gives
-use Rattle.session_model.specs.Query.{bracket_answer, bracket_served}
+use Rattle.session_model.specs.Query.{bracket_answer}
+use Rattle.session_model.specs.Served.{bracket_served}
 
 -- ---- Trees, by their meanings
 
@@ -114,14 +116,16 @@ nothing : answer None None ≡ Ok (record { outcome = gives.Same; warns = no_war
 nothing = refl
 
 -- D[a > 0L | b]: NA is not TRUE
-logical : answer (Some (two (two (name (codes "a")) (Arith Gt) (int (pos 0))) (Arith Or) (name (codes "b")))) None ≡ rows (first_row ∷ [])
+logical : answer (Some (two (two (name (codes "a")) (Arith Gt) (int (pos 0))) (Arith Or) (name (codes "b")))) None
+    ≡ rows (first_row ∷ [])
 logical = refl
 
 -- D[!b], D[c(3L, 0L, 9L)], D[-1L]
 negated : answer (Some (not_before (name (codes "b")))) None ≡ rows (third_row ∷ [])
 negated = refl
 
-places : answer (Some (combine (item (int (pos 3)) ∷ item (int (pos 0)) ∷ item (int (pos 9)) ∷ []))) None ≡ rows (third_row ∷ second_row ∷ [])
+places : answer (Some (combine (item (int (pos 3)) ∷ item (int (pos 0)) ∷ item (int (pos 9)) ∷ []))) None
+    ≡ rows (third_row ∷ second_row ∷ [])
 places = refl
 
 left_out : answer (Some (minus (int (pos 1)))) None ≡ rows (second_row ∷ third_row ∷ [])
@@ -156,7 +160,8 @@ last_row = refl
 -- ---- j
 
 -- D[, .(q = a %/% 2L, r = a %% -3L, .N)]
-computed : answer None (Some (list_of (named (codes "q") (two (name (codes "a")) (Arith Div) (int (pos 2))) ∷ named (codes "r") (two (name (codes "a")) (Arith Mod) (minus (int (pos 3)))) ∷ item (name (codes ".N")) ∷ [])))
+computed : answer None (Some (list_of (named (codes "q") (two (name (codes "a")) (Arith Div) (int (pos 2))) ∷ named
+    (codes "r") (two (name (codes "a")) (Arith Mod) (minus (int (pos 3)))) ∷ item (name (codes ".N")) ∷ [])))
     ≡ table (record {
       columns = head (codes "q") ty.Int ∷ head (codes "r") ty.Int ∷ head (codes "N") ty.Int ∷ [];
       rows = (n 2 ∷ m 0 ∷ n 3 ∷ []) ∷ (is.Na ∷ is.Na ∷ n 3 ∷ []) ∷ (m 3 ∷ m 0 ∷ n 3 ∷ []) ∷ [];
@@ -167,10 +172,12 @@ computed : answer None (Some (list_of (named (codes "q") (two (name (codes "a"))
 computed = refl
 
 -- D[c(3L, 9L), a], D[c(3L, 9L), .I], D[, x]
-chosen_column : answer (Some (combine (item (int (pos 3)) ∷ item (int (pos 9)) ∷ []))) (Some (name (codes "a"))) ≡ vector ty.Int (m 6 ∷ is.Na ∷ [])
+chosen_column : answer (Some (combine (item (int (pos 3)) ∷ item (int (pos 9)) ∷ []))) (Some (name (codes "a")))
+    ≡ vector ty.Int (m 6 ∷ is.Na ∷ [])
 chosen_column = refl
 
-row_numbers : answer (Some (combine (item (int (pos 3)) ∷ item (int (pos 9)) ∷ []))) (Some (name (codes ".I"))) ≡ vector ty.Int (n 3 ∷ is.Na ∷ [])
+row_numbers : answer (Some (combine (item (int (pos 3)) ∷ item (int (pos 9)) ∷ []))) (Some (name (codes ".I")))
+    ≡ vector ty.Int (n 3 ∷ is.Na ∷ [])
 row_numbers = refl
 
 script_vector : answer None (Some (name (codes "x"))) ≡ vector ty.Int (n 2 ∷ n 3 ∷ [])
@@ -190,27 +197,32 @@ texts = refl
 unknown_text : answer None (Some (text (codes "z"))) ≡ Err (fault E03 (codes "z"))
 unknown_text = refl
 
-repeated_text : answer None (Some (combine (item (text (codes "a")) ∷ item (text (codes "a")) ∷ []))) ≡ Err (fault E12 (codes "a"))
+repeated_text : answer None (Some (combine (item (text (codes "a")) ∷ item (text (codes "a")) ∷ [])))
+    ≡ Err (fault E12 (codes "a"))
 repeated_text = refl
 
 -- D[, .()], D[, .(a, x)]
 no_items : answer None (Some (list_of [])) ≡ Err (fault E19 (codes "."))
 no_items = refl
 
-unequal_items : answer None (Some (list_of (item (name (codes "a")) ∷ item (name (codes "x")) ∷ []))) ≡ Err (length_fault 2 3)
+unequal_items : answer None (Some (list_of (item (name (codes "a")) ∷ item (name (codes "x")) ∷ [])))
+    ≡ Err (length_fault 2 3)
 unequal_items = refl
 
 -- ---- The order of faults
 
 -- D[c(-1L, 2L), z]: i's value comes before j
-i_first : answer (Some (combine (item (minus (int (pos 1))) ∷ item (int (pos 2)) ∷ []))) (Some (name (codes "z"))) ≡ Err (fault E13 [])
+i_first : answer (Some (combine (item (minus (int (pos 1))) ∷ item (int (pos 2)) ∷ []))) (Some (name (codes "z")))
+    ≡ Err (fault E13 [])
 i_first = refl
 
 -- D[, .(9223372036854775807L + 1L, z)]: all types come before all values
-types_first : answer None (Some (list_of (item (two (int (pos 9223372036854775807)) (Arith Add) (int (pos 1))) ∷ item (name (codes "z")) ∷ []))) ≡ Err (fault E03 (codes "z"))
+types_first : answer None (Some (list_of (item (two (int (pos 9223372036854775807)) (Arith Add) (int (pos 1))) ∷ item
+    (name (codes "z")) ∷ []))) ≡ Err (fault E03 (codes "z"))
 types_first = refl
 
-values_then : answer None (Some (list_of (item (two (int (pos 9223372036854775807)) (Arith Add) (int (pos 1))) ∷ item (name (codes "a")) ∷ []))) ≡ Err (fault E06 (codes "+"))
+values_then : answer None (Some (list_of (item (two (int (pos 9223372036854775807)) (Arith Add) (int (pos 1))) ∷ item
+    (name (codes "a")) ∷ []))) ≡ Err (fault E06 (codes "+"))
 values_then = refl
 
 -- ---- What is served: not .SD in a bracket, nor a list as i

@@ -9,7 +9,8 @@
 --   bound f names             nothing, or the first fault of binding a call of f
 -- A named argument goes to the formal of that name. An argument without a name goes, in order, to
 -- the formals that no name takes. Places count from 0.
-use Rattle.std.specs.Prelude.{ℕ, ◌+◌, ◌-◌, ◌==◌, ◌||◌, ◌&&◌, not, Bool, true, false, cond, List, [], ◌∷◌, Option, None, Some, Result, Ok, Err, length, nat_lt, is_none}
+use Rattle.std.specs.Prelude.{ℕ, ◌+◌, ◌-◌, ◌==◌, ◌||◌, ◌&&◌, not, Bool, true, false, cond, List, [], ◌∷◌, Option}
+use Rattle.std.specs.Prelude.{None, Some, Result, Ok, Err, length, nat_lt, is_none}
 use Rattle.std.specs.Str.{bytes_eq}
 use Rattle.dt_base.specs.declared.fault.Fault.{Fault}
 use Rattle.dt_base.specs.declared.fault.Code.TheVariants.{E19}

@@ -24,12 +24,14 @@ use Rattle.expr_model.specs.Surroundings.{outside}
 use Rattle.vector_model.specs.Faults.{unbuilt}
 use Rattle.session_model.specs.Binding.{bound, place_of, is_free}
 use Rattle.session_model.specs.Columns.{arguments_answer}
-use Rattle.session_model.specs.Effect.{Effect, Remove, prints, writes, changes, does_nothing}
+use Rattle.session_model.specs.Effect.{Effect, Remove, prints, writes, changes_name, does_nothing}
 use Rattle.session_model.specs.Expression.{names_in, arg_at}
 use Rattle.session_model.specs.Form.{Form, text_in, name_in}
 use Rattle.session_model.specs.Meanings.{Answer, Meaning, ArgMeaning}
-use Rattle.session_model.specs.Query.{value_after, vars_of}
-use Rattle.session_model.specs.Value.{Value, New, Null, Given, Scene, file_table, wanted_table, copied, printed_value}
+use Rattle.session_model.specs.Found.{vars_of}
+use Rattle.session_model.specs.Query.{value_after}
+use Rattle.session_model.specs.Value.{Value, New, Null, Given, Scene, file_table, wanted_table, copied, plain_given}
+use Rattle.session_model.specs.Value.{printed_value}
 
 -- ---- Forms of arguments
 
@@ -40,7 +42,8 @@ named_file form = elim (text_in form) [ None ↦ Err (fault E19 (codes "file")) 
 -- a package's name stands bare, and there is one
 abbrev pub package_named : Option (List ℕ) → Result Effect Fault
 package_named None = Err (fault E19 (codes "package"))
-package_named (Some name) = cond (bytes_eq name (codes "data.table")) (Ok does_nothing) (Err (fault E19 (codes "package")))
+package_named (Some name) =
+    cond (bytes_eq name (codes "data.table")) (Ok does_nothing) (Err (fault E19 (codes "package")))
 
 abbrev pub known_package : Form → Result Effect Fault
 known_package form = package_named (name_in form)
@@ -64,11 +67,11 @@ argument args before p = there (arg_at args (place_of (names_in args) before p))
 abbrev pub copy_of : Meaning → Scene → Result Given Fault
 copy_of a w =
     then_do (a.gives w) (λ g.
-    then_do (wanted_table w.state g.value) (λ t. Ok (record { value = New (copied t); warns = g.warns })))
+    then_do (wanted_table w.state g.value) (λ t. Ok (plain_given (New (copied t)) g.warns)))
 
 -- what columns give as a value: a new table
 abbrev pub given_of : Answer → Result Given Fault
-given_of a = Ok (record { value = value_after Null a.outcome; warns = a.warns })
+given_of a = Ok (plain_given (value_after Null a.outcome) a.warns)
 
 -- `data.table` of any expressions over the script's names
 abbrev pub data_table : List ArgMeaning → Scene → Result Given Fault
@@ -102,7 +105,7 @@ written_given s g file =
 -- a name that is bound is removed
 abbrev pub removed_name : List ℕ → Option Bound → Result Effect Fault
 removed_name name None = Err (fault E02 name)
-removed_name name (Some b) = Ok (changes (Remove name))
+removed_name name (Some b) = Ok (changes_name (Remove name))
 
 -- a command, once its arguments are bound
 abbrev pub command : Func → List ArgMeaning → Scene → Result Effect Fault

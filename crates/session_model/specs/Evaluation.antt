@@ -16,13 +16,13 @@ use Rattle.std.specs.Prelude.{◌≡◌, ◌+◌, ℕ, zero, suc, List, [], ◌�
 use Rattle.dt_base.specs.declared.fault.Code.TheVariants.{E01, E18, E21, E22}
 use Rattle.dt_base.specs.declared.fault.Fault.{Fault}
 use Rattle.dt_base.specs.Fault.{fault}
-use Rattle.dt_model.specs.State.{State}
 use Rattle.dt_tree.specs.declared.fault.ScriptFault.{ScriptFault}
 use Rattle.dt_tree.specs.declared.fault.ScriptFault.TheVariants.{NotUtf8, Syntax, Number, TooDeep}
 use Rattle.dt_tree.specs.declared.tree.Script.{Script}
 use Rattle.dt_tree.specs.declared.tree.Stmt.{Stmt}
 use Rattle.run_model.specs.Reading.{IsReadAs, IsRefused}
 use Rattle.session_model.specs.Effect.{Effect, changed}
+use Rattle.session_model.specs.Session.{SessionState}
 use Rattle.session_model.specs.Statement.{step}
 use Rattle.vector_model.specs.Faults.{number_fault}
 use Rattle.session_model.specs.World.{World, Pieces, pieces_of, fault_pieces, after, Parted, look}
@@ -33,32 +33,32 @@ Step = Result Effect Fault
 
 -- how a script ends
 pub record End : Type 0 where
-  pub state : State
+  pub state : SessionState
   pub world : World
   pub done : ℕ
   pub fault : Option (ℕ × Fault)
 
 -- it stops with a fault, whose line is put
-abbrev pub stopped : ℕ → Fault → State → World → ℕ → End
+abbrev pub stopped : ℕ → Fault → SessionState → World → ℕ → End
 stopped line f s w n = record { state = s; world = after w (fault_pieces line f); done = n; fault = Some (line, f) }
 
 -- behind a statement the rest goes on, unless the statement is refused
-abbrev pub goes_on : ℕ → Step → (State → World → ℕ → End) → State → World → ℕ → End
+abbrev pub goes_on : ℕ → Step → (SessionState → World → ℕ → End) → SessionState → World → ℕ → End
 goes_on line (Ok e) rest s w n = rest (changed s e.change) (after w (pieces_of line e)) (n + 1)
 goes_on line (Err f) rest s w n = stopped line f s w n
 
 -- each statement meets the state and the files that the one before it left
-abbrev pub plain : List Stmt → State → World → ℕ → End
+abbrev pub plain : List Stmt → SessionState → World → ℕ → End
 plain [] s w n = record { state = s; world = w; done = n; fault = None }
 plain (x ∷ xs) s w n = goes_on x.line (step (look w.files) s x) (plain xs) s w n
 
 -- the statement on this line was done: the state and the world are those after its effect
-abbrev pub Did : ℕ → Step → State → State → World → World → Type 0
+abbrev pub Did : ℕ → Step → SessionState → SessionState → World → World → Type 0
 Did line (Ok e) s now w v = (now ≡ changed s e.change) × (v ≡ after w (pieces_of line e))
 Did line (Err f) s now w v = ⊥
 
 -- all statements were done, with no fault
-abbrev pub IsEnd : End → State → World → Type 0
+abbrev pub IsEnd : End → SessionState → World → Type 0
 IsEnd e now v = (e.fault ≡ None) × (e.state ≡ now) × (e.world ≡ v)
 
 -- what the statement at hand sends outside, its fault's line included
@@ -66,13 +66,13 @@ abbrev pub sends : ℕ → Step → Pieces
 sends line (Ok e) = pieces_of line e
 sends line (Err f) = fault_pieces line f
 
-abbrev pub goes_on_to : ℕ → Step → (State → World → Type 0) → State → World → Type 0
+abbrev pub goes_on_to : ℕ → Step → (SessionState → World → Type 0) → SessionState → World → Type 0
 goes_on_to line (Ok e) rest s w = rest (changed s e.change) (after w (pieces_of line e))
 goes_on_to line (Err f) rest s w = ⊥
 
 -- The state is the one after j statements, and the world has all that these gave and a first part
 -- of what the next one gives.
-abbrev pub Cut : List Stmt → ℕ → ℕ → State → World → State → World → Type 0
+abbrev pub Cut : List Stmt → ℕ → ℕ → SessionState → World → SessionState → World → Type 0
 Cut [] j line s w now v = ⊥
 Cut (x ∷ xs) zero line s w now v =
     (line ≡ x.line) × (now ≡ s) × Parted w (sends x.line (step (look w.files) s x)) v
@@ -94,11 +94,13 @@ line_of (Number at) = at.line
 line_of (TooDeep at) = at.line
 
 -- The bytes are a script, whose statements run; or they are refused, and nothing runs.
-pub data Evaluates (bytes : List ℕ) (s : State) (w : World) : End → Type 0 where
+pub data Evaluates (bytes : List ℕ) (s : SessionState) (w : World) : End → Type 0 where
   reads : (t : Script) → IsReadAs bytes t → Evaluates bytes s w (plain t.stmts s w 0)
   refuses : (f : ScriptFault) → IsRefused bytes f → Evaluates bytes s w (stopped (line_of f) (script_fault f) s w 0)
 
 -- The run of the bytes was cut off: in a statement, or in the line of the fault of the reading.
-pub data IsCutOff (bytes : List ℕ) (s : State) (w : World) (j line : ℕ) (now : State) (v : World) : Type 0 where
+pub data IsCutOff (bytes : List ℕ) (s : SessionState) (w : World) (j line : ℕ) (now : SessionState) (v : World)
+    : Type 0 where
   in_statement : (t : Script) → IsReadAs bytes t → Cut t.stmts j line s w now v → IsCutOff bytes s w j line now v
-  in_refusal : (f : ScriptFault) → IsRefused bytes f → j ≡ 0 → line ≡ line_of f → now ≡ s → Parted w (fault_pieces (line_of f) (script_fault f)) v → IsCutOff bytes s w j line now v
+  in_refusal : (f : ScriptFault) → IsRefused bytes f → j ≡ 0 → line ≡ line_of f → now ≡ s
+      → Parted w (fault_pieces (line_of f) (script_fault f)) v → IsCutOff bytes s w j line now v

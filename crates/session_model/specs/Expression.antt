@@ -7,7 +7,6 @@
 -- Faults come left to right, and what stands inside an expression comes before the expression. A type
 -- depends on no cell. A value repeats the faults of types.
 use Rattle.std.specs.Prelude.{ℕ, Bool, true, false, List, [], ◌∷◌, map, Option, None, Some, Result, Ok, Err, slice_get}
-use Rattle.dt_base.specs.declared.cell.Cell.TheVariants as is
 use Rattle.dt_base.specs.declared.cell.ColType.{ColType}
 use Rattle.dt_base.specs.declared.fault.Fault.{Fault}
 use Rattle.dt_base.specs.declared.fault.Code.TheVariants.{E02, E04, E19}
@@ -31,7 +30,7 @@ use Rattle.func_table.specs.declared.slot.Slot.{Slot}
 use Rattle.func_table.specs.declared.slot.Slot.TheVariants.{Given, Flag, Absent}
 use Rattle.func_table.specs.Calls.{func_of, word_of, kind_of, arity_of, formals_of, name_of, is_flag, later_of}
 use Rattle.session_model.specs.Binding.{ArgNames, bound, places, place_of}
-use Rattle.session_model.specs.Form.{Form, Literal, name_in}
+use Rattle.session_model.specs.Form.{Form, flag_in, name_in}
 use Rattle.session_model.specs.Meanings.{Meaning, ArgMeaning, TailMeaning}
 use Rattle.vector_model.specs.Then.{then_do}
 use Rattle.dt_model.specs.Combine.{common_of}
@@ -98,9 +97,12 @@ arg_at args None = None
 arg_at args (Some i) = slice_get args i
 
 -- a flag is TRUE or FALSE, as written
+abbrev pub flag_of : {A : Type 0} → Formal → Option Bool → Result (Slot A) Fault
+flag_of p (Some b) = Ok (Flag b)
+flag_of p None = Err (fault E19 (name_of p))
+
 abbrev pub flag_slot : {A : Type 0} → Formal → Form → Result (Slot A) Fault
-flag_slot p (Literal (is.Lgl b) kind) = Ok (Flag b)
-flag_slot p _ = Err (fault E19 (name_of p))
+flag_slot p form = flag_of p (flag_in form)
 
 abbrev pub given : {A : Type 0} → Result A Fault → Result (Slot A) Fault
 given r = then_do r (λ x. Ok (Given x))
@@ -116,7 +118,8 @@ slot_at run p None = Ok Absent
 slot_at run p (Some a) = slot_as run p (is_flag p) a.means
 
 -- the slots of these formals, or the first fault in their order
-abbrev pub slots : {A : Type 0} → (Meaning → Result A Fault) → List ArgMeaning → List (Formal × Option ℕ) → Result (List (Slot A)) Fault
+abbrev pub slots : {A : Type 0} → (Meaning → Result A Fault) → List ArgMeaning → List (Formal × Option ℕ)
+    → Result (List (Slot A)) Fault
 slots run args formals = each (λ x. slot_at run x.0 (arg_at args x.1)) formals
 
 -- what each formal of a function is given

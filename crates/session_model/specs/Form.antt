@@ -1,19 +1,18 @@
 -- What an expression is as written, where an argument wants a form and not a value.
 --   literal_cell kind cell   the cell of a literal of this type
---   Form          a literal, the negative of an integer literal, `NULL`, `Inf`, a bare name, `!` before
---                 a bare name, or else
+--   Form          a literal, the negative of an integer literal, `NULL`, `Inf` and `-Inf`, a bare name, `!` or
+--                 `-` before a bare name, two bare names with an operator, a formula, or else
 --   negative f    the integer that `-` before this form writes, if it is an integer literal
 --   is_literal f  the form is a literal, with `-` before an integer allowed
+--   flag_in f     the flag of a literal TRUE or FALSE
 --   text_in f     the text of a text literal; NA is none
---   Joining       what an expression is as the i of a bracket: a table to join with, a list of values to
---                 join with, one of these behind `!`, or no join
---   is_join j     it is a join
 use Rattle.std.specs.Prelude.{ℤ, neg_ℤ, negsuc, ◌^◌, ◌-◌, Bool, true, false, cond, List, ℕ, Option, None, Some}
 use Rattle.std.specs.Ordering.{int_eq}
 use Rattle.dt_base.specs.declared.cell.Cell.{Cell}
 use Rattle.dt_base.specs.declared.cell.Cell.TheVariants as is
 use Rattle.dt_base.specs.declared.cell.ColType.{ColType}
 use Rattle.dt_base.specs.declared.cell.ColType.TheVariants as ty
+use Rattle.dt_base.specs.declared.operators.Op.{Op}
 
 -- The cell of a literal. In a script each literal has a cell of its type. A tree that no script
 -- spells may hold another, which counts as NA; so does -2^63, which no cell is.
@@ -31,6 +30,10 @@ pub data Form : Type 0 where
   InfWord : Form
   BareName : List ℕ → Form
   NotName : List ℕ → Form
+  MinusName : List ℕ → Form
+  MinusInf : Form
+  Compares : Op → List ℕ → List ℕ → Form
+  Formula : List (List ℕ) → List (List ℕ) → Form
   Other : Form
 
 -- what `-` before an integer literal writes
@@ -55,31 +58,12 @@ abbrev pub text_in : Form → Option (List ℕ)
 text_in (Literal (is.Text t) kind) = Some t
 text_in _ = None
 
+-- TRUE or FALSE
+abbrev pub flag_in : Form → Option Bool
+flag_in (Literal (is.Lgl b) kind) = Some b
+flag_in _ = None
+
 -- the name of a bare name
 abbrev pub name_in : Form → Option (List ℕ)
 name_in (BareName name) = Some name
 name_in _ = None
-
--- ---- What an expression is as the i of a bracket, whatever its names are bound to
-
--- A query or a table function gives a table to join with, and a list gives values to join with.
-pub data Joining : Type 0 where
-  NoJoin : Joining
-  TableJoin : Joining
-  ListJoin : Joining
-  AntiJoin : Joining
-
--- `!` turns a join round; before anything else it is logical
-abbrev pub turned : Joining → Joining
-turned TableJoin = AntiJoin
-turned ListJoin = AntiJoin
-turned _ = NoJoin
-
--- parentheses let a table through, and hide a list and a `!`
-abbrev pub in_parens : Joining → Joining
-in_parens TableJoin = TableJoin
-in_parens _ = NoJoin
-
-abbrev pub is_join : Joining → Bool
-is_join NoJoin = false
-is_join _ = true

@@ -1,3 +1,5 @@
+pub mod Asked
+pub mod Assigned
 pub mod Binding
 pub mod Calls
 pub mod Columns
@@ -5,9 +7,17 @@ pub mod Effect
 pub mod Evaluation
 pub mod Expression
 pub mod Form
+pub mod Found
+pub mod Items
 pub mod Meaning
 pub mod Meanings
 pub mod Query
+pub mod Second
+pub mod Served
+pub mod Session
+pub mod Set
+pub mod Shapes
 pub mod Statement
 pub mod Value
 pub mod World
+pub mod Written

@@ -1,5 +1,5 @@
 -- What the parts of an expression mean, as records. `Meaning` fills them from a tree.
---   Outcome           what one bracket gives: the same table, a new table, or a vector
+--   Outcome           what one bracket gives: the same table, a new table, a vector, or an assignment
 --   Answer            an outcome and its warnings
 --   Meaning           an expression
 --   ArgMeaning        an argument: its name, and the meaning of its value
@@ -16,14 +16,16 @@ use Rattle.dt_tree.specs.declared.tree.BinOp.{BinOp}
 use Rattle.vector_model.specs.Functions.{Valued}
 use Rattle.expr_model.specs.Surroundings.{Env}
 use Rattle.session_model.specs.Effect.{Effect}
-use Rattle.session_model.specs.Form.{Form, Joining}
+use Rattle.session_model.specs.Form.{Form}
 use Rattle.session_model.specs.Value.{Given, Scene}
+use Rattle.session_model.specs.Written.{Joining, Listing, Probe}
 
--- what one bracket gives
+-- what one bracket gives; by an assignment the table before it becomes another
 pub data Outcome : Type 0 where
   Same : Outcome
   Table : PlainTable → Outcome
   Vector : Cells → Outcome
+  Assigned : PlainTable → Outcome
 
 pub record Answer : Type 0 where
   pub outcome : Outcome
@@ -36,8 +38,11 @@ pub record Answer : Type 0 where
 --   served    whether all of its forms are served, where it stands in a bracket or outside
 --   check     its type where a vector is wanted, or its first fault; it looks at no cell
 --   value     its value there with its warnings, or its first fault
---   answer    what it gives as the j of a bracket
---   gives     what it gives as a statement's value, as a head, and where a table is wanted
+--   listing   its word and its items, if it is a call
+--   mentions  the bare names in it, but not the name of a table that is told of, as in `nrow(D)`
+--   probe     a column beside a value, if it is that
+--   gives     what it gives as a head, and where a table is wanted
+--   whole     what it gives as a statement's value
 --   command   what it does as a whole statement, with a name to assign to or none, if it is a command
 pub record Meaning : Type 0 where
   pub form : Form
@@ -46,8 +51,11 @@ pub record Meaning : Type 0 where
   pub served : Bool → Bool
   pub check : Env → Result ColType Fault
   pub value : Env → Result Valued Fault
-  pub answer : Env → Result Answer Fault
+  pub listing : Option Listing
+  pub mentions : List (List ℕ)
+  pub probe : Option Probe
   pub gives : Scene → Result Given Fault
+  pub whole : Scene → Result Given Fault
   pub command : Option (Option (List ℕ) → Scene → Result Effect Fault)
 
 -- an argument
@@ -63,7 +71,8 @@ pub record TailMeaning : Type 0 where
 -- what stands as j
 pub data SecondMeaning : Type 0 where
   Computes : Meaning → SecondMeaning
-  Assigns : SecondMeaning
+  Assigns : Meaning → Meaning → SecondMeaning
+  AssignsAll : List ArgMeaning → SecondMeaning
 
 -- a bracket
 pub record BracketMeaning : Type 0 where

@@ -1,7 +1,8 @@
 -- Values, and the tables that functions make.
 --   Value               a table that has a number, a new table, a vector, or NULL
---   Given               a value and its warnings
---   Scene               the files and the state that a statement meets
+--   Given               a value, its warnings, the table that it alters, and whether it is shown
+--   plain_given v w     a value that alters nothing, with these warnings
+--   Scene               the files, the state and the options that a statement meets
 --   bound_value q b     what the name q gives that is bound to b
 --   limit_fault l       the fault of a new table that passes the limit l
 --   new_table names n vs    the new table of these columns of n cells, or its fault
@@ -9,21 +10,22 @@
 --   copied t            what `copy` gives
 --   wanted_table s v    the table of a value, where a table is wanted
 --   printed_value s v   how a value prints
-use Rattle.std.specs.Prelude.{ℕ, ◌+◌, ◌*◌, nat_lt, if◌then◌else◌, List, [], ◌∷◌, length, Option, None, Some, Result, Ok, Err, codes}
+use Rattle.std.specs.Prelude.{ℕ, ◌+◌, nat_lt, Bool, true, if◌then◌else◌, List, [], length, Option, None, Some, Result}
+use Rattle.std.specs.Prelude.{Ok, Err, codes}
 use Rattle.std.specs.FinMap as finite
-use Rattle.dt_base.specs.declared.cell.Cell.{Cell}
-use Rattle.dt_base.specs.declared.cell.ColType.{ColType}
 use Rattle.dt_base.specs.declared.fault.Fault.{Fault}
 use Rattle.dt_base.specs.declared.fault.Code.TheVariants.{E02, E04, E07, E08, E09, E12, E15, E16, E17, E18, E19}
 use Rattle.dt_base.specs.Fault.{fault}
-use Rattle.dt_base.specs.declared.limits.TheConstants.{MAX_CELLS, MAX_COLUMNS, MAX_FILE_BYTES, MAX_ROWS, SPARE_COLUMNS}
+use Rattle.dt_base.specs.declared.limits.TheConstants.{MAX_COLUMNS, MAX_FILE_BYTES, SPARE_COLUMNS}
 use Rattle.dt_base.specs.declared.warns.Warns.{Warns}
 use Rattle.dt_base.specs.Warns.{no_warns}
-use Rattle.dt_model.specs.Table.{PlainTable, TableLimit, Rows, Columns, first_repeated, name_at, no_table, past_limit, table_of}
+use Rattle.dt_model.specs.Table.{PlainTable, TableLimit, Rows, Columns, first_repeated, name_at, no_table, past_limit}
+use Rattle.dt_model.specs.Table.{table_of}
 use Rattle.dt_model.specs.Table as limit
 use Rattle.dt_model.specs.Vector.{Vector}
 use Rattle.dt_model.specs.State.{State, Bound}
 use Rattle.dt_model.specs.State.{Table as NumberedTable, Vector as BoundVector}
+use Rattle.func_table.specs.declared.options.Options.{Options}
 use Rattle.run_model.specs.Csv.{read_csv, FileFault, Ragged, NotUtf8, TooManyColumns, TooManyRows}
 use Rattle.run_model.specs.Printed.{printed_table, printed_vector, null_text}
 use Rattle.vector_model.specs.Faults.{number_fault}
@@ -36,10 +38,17 @@ pub data Value : Type 0 where
   Cells : Vector → Value
   Null : Value
 
--- a value and the warnings that it comes with
+-- A value and the warnings that it comes with. What it alters is a table, by its number, that becomes
+-- another when the statement is done. A value that is shown prints where it is given no name.
 pub record Given : Type 0 where
   pub value : Value
   pub warns : Warns
+  pub alters : Option (ℕ × PlainTable)
+  pub shown : Bool
+
+-- a value that alters nothing
+abbrev pub plain_given : Value → Warns → Given
+plain_given v warns = record { value = v; warns = warns; alters = None; shown = true }
 
 -- the bytes of the file of a name, if there is one
 abbrev pub Look : Type 0
@@ -49,10 +58,11 @@ Look = List ℕ → Option (List ℕ)
 pub record Scene : Type 0 where
   pub files : Look
   pub state : State
+  pub options : Options
 
 -- a value without warnings
 abbrev pub gives_value : Value → Result Given Fault
-gives_value v = Ok (record { value = v; warns = no_warns })
+gives_value v = Ok (plain_given v no_warns)
 
 -- ---- Names
 
@@ -104,7 +114,7 @@ record_fault TooManyRows = fault E07 []
 
 -- a file's table and its warnings, or its fault
 abbrev pub records_given : Result (PlainTable × Warns) FileFault → Result Given Fault
-records_given (Ok t) = Ok (record { value = New t.0; warns = t.1 })
+records_given (Ok t) = Ok (plain_given (New t.0) t.1)
 records_given (Err f) = Err (record_fault f)
 
 -- the table of a file

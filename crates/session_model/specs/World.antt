@@ -61,4 +61,5 @@ FiledPart held now (Some file) = WrotePart held now file.0 file.1
 pub data Parted (w : World) (p : Pieces) (now : World) : Type 0 where
   in_text : AppendedPart w.out now.out p.text → now.files ≡ w.files → now.err ≡ w.err → Parted w p now
   in_file : now.out ≡ appended w.out p.text → FiledPart w.files now.files p.file → now.err ≡ w.err → Parted w p now
-  in_lines : now.out ≡ appended w.out p.text → now.files ≡ filed w.files p.file → AppendedPart w.err now.err p.lines → Parted w p now
+  in_lines : now.out ≡ appended w.out p.text → now.files ≡ filed w.files p.file → AppendedPart w.err now.err p.lines
+      → Parted w p now

@@ -1,23 +1,21 @@
-ghost use Rattle.std.specs.Prelude.{◌≡◌, ◌≤◌, IfOk, IfErr, IsSome, IsErrOf, Some, cond, map};
+ghost use Rattle.std.specs.Prelude.{◌≡◌, IfOk, IfErr, Some, cond, map};
 ghost use Rattle.std.specs.FinMap as finite;
-ghost use Rattle.eval_fail.specs.Answers.{AnswersAs, IsNoMemory, IsOwn};
-ghost use Rattle.dt_world.specs.Causes.{Rose};
-ghost use Rattle.session_model.specs.Calls.{argument, package_named, known_package, bare_name, removed_name, written_given, command};
-ghost use Rattle.session_model.specs.Expression.{names_in};
-ghost use Rattle.session_model.specs.Meaning.{meaning, arg_meaning};
 ghost use Rattle.dt_table.specs.Plain.{plain};
+ghost use Rattle.eval_fail.specs.Answers.{AnswersAs, IsOwn};
+ghost use Rattle.file_value.specs.Reads.{OnlyReads, files_seen};
 ghost use Rattle.run_model.specs.Csv.{written_csv};
 ghost use Rattle.session_model.specs.Binding.{is_free};
+ghost use Rattle.session_model.specs.Calls.{package_named, known_package, bare_name};
+ghost use Rattle.session_model.specs.Calls.{removed_name, written_given, command};
 ghost use Rattle.session_model.specs.Effect as model;
-ghost use Rattle.vector_model.specs.Then.{then_do};
-ghost use Rattle.stmt_effect.specs.Effects.{plain_effect, FitsIn};
-ghost use Rattle.stmt_value.specs.Answers.{Gives, Blames};
-ghost use Rattle.stmt_value.specs.Reads.{NoReadFailed};
-ghost use Rattle.stmt_value.specs.Values.{plain_given, scene, IsValueIn};
-ghost use Rattle.table_heap.specs.Seen.{HeapSeen};
+ghost use Rattle.session_model.specs.Expression.{names_in};
+ghost use Rattle.session_model.specs.Meaning.{meaning, arg_meaning};
+ghost use Rattle.stmt_change.specs.Effects.{plain_effect, FitsIn};
+ghost use Rattle.stmt_effect.specs.Does.{Does};
+ghost use Rattle.stmt_effect.specs.Commands.{library_named, removed_by};
+ghost use Rattle.stmt_value.specs.Values.{plain_given, IsValueIn};
 ghost use Rattle.table_heap.specs.State.{state_of};
 
-use crate::effect::{Change, Effect, Written};
 use crate::printed::printed;
 use arg_bind::{bare_name, next};
 use csv_edge::write_table;
@@ -29,13 +27,16 @@ use eval_fail::{EvalFail, stop};
 use func_table::{Formal, Func};
 use std::alloc::{AllocError, Global};
 use std::sync::ledger::Ledger;
-use stmt_value::{Given, ValueFail, argument, named_file, refusal_unbuilt, value, wanted_table};
+use stmt_change::{Change, Effect, NameChange, Written};
+use stmt_value::{
+    Given, Setting, ValueFail, argument, named_file, refusal_unbuilt, value, wanted_table,
+};
 use table_heap::{Heap, Look};
 
 /// The package `data.table`, which does nothing; anything else is E19 with `package`.
-fn known_package(alloc: Global, e: &Expr) -> Result<Effect, EvalFail>
-    ensures answer { AnswersAs plain_effect (known_package (meaning e.now).form) result }
-    ensures fits { (h : HeapSeen) → IfOk result (λ e. FitsIn h e.change) }
+fn known_package(alloc: Global, e: &Expr) -> Result<(), EvalFail>
+    ensures answer { AnswersAs (λ u. model.does_nothing)
+        (known_package (meaning e.now).form) result }
     ensures own { IfErr result IsOwn }
 {
     match bare_name(e) {
@@ -45,22 +46,21 @@ fn known_package(alloc: Global, e: &Expr) -> Result<Effect, EvalFail>
 }
 
 /// The package of a name.
-fn package_named(alloc: Global, name: &str) -> Result<Effect, EvalFail>
-    ensures answer { AnswersAs plain_effect (package_named (Some name.now)) result }
-    ensures fits { (h : HeapSeen) → IfOk result (λ e. FitsIn h e.change) }
+fn package_named(alloc: Global, name: &str) -> Result<(), EvalFail>
+    ensures answer { AnswersAs (λ u. model.does_nothing) (package_named (Some name.now)) result }
     ensures own { IfErr result IsOwn }
 {
     if name == "data.table" {
-        Ok(Effect::nothing(alloc))
+        Ok(())
     } else {
         Err(stop(alloc, Code::E19, "package"))
     }
 }
 
-/// What `library` does.
-fn library(alloc: Global, args: &[Arg]) -> Result<Effect, EvalFail>
-    ensures answer { AnswersAs plain_effect (then_do (argument (map arg_meaning args.now) 0 Formal.Package) (λ a. known_package a.form)) result }
-    ensures fits { (h : HeapSeen) → IfOk result (λ e. FitsIn h e.change) }
+/// The package that `library` names, which does nothing.
+fn package(alloc: Global, args: &[Arg]) -> Result<(), EvalFail>
+    ensures answer { AnswersAs (λ u. model.does_nothing)
+        (library_named (map arg_meaning args.now)) result }
     ensures own { IfErr result IsOwn }
 {
     let package = argument(alloc, args, 0, Formal::Package)?;
@@ -71,24 +71,19 @@ fn library(alloc: Global, args: &[Arg]) -> Result<Effect, EvalFail>
 fn print<F: Files, L: Ledger>(
     alloc: Global,
     args: &[Arg],
-    heap: &Heap,
+    setting: &Setting<'_>,
     files: &mut F,
     steps: &mut Steps<L>,
 ) -> Result<Effect, ValueFail>
-    ensures told { IsSome (F.held files.old) → Gives plain_effect (command Func.Print (map arg_meaning args.now) (scene (F.held files.old) heap.now)) result }
-    ensures fits { IfOk result (λ e. FitsIn heap.now e.change) }
-    ensures held { F.held files.new ≡ F.held files.old }
-    ensures failed { IsErrOf result ValueFail.ReadFault → Rose (F.read_faults files.old) (F.read_faults files.new) }
-    ensures quiet { NoReadFailed result → F.read_faults files.new ≡ F.read_faults files.old }
-    ensures read_faults { F.read_faults files.old ≤ F.read_faults files.new }
-    ensures misses { F.misses files.old ≤ F.misses files.new }
-    ensures longs { F.longs files.old ≤ F.longs files.new }
-    ensures write_faults { F.write_faults files.new ≡ F.write_faults files.old }
-    ensures cause { IfErr result (Blames (F.held files.old) (Rose (F.misses files.old) (F.misses files.new)) (Rose (F.longs files.old) (F.longs files.new))) }
+    ensures told { Does (F.held files.old) setting.now
+        (command Func.Print (map arg_meaning args.now)) result }
+    ensures fits { IfOk result (λ e. FitsIn setting.now.heap.now e.change) }
+    ensures files { OnlyReads (files_seen F.held F.read_faults F.misses F.longs F.write_faults)
+        files.old files.new result }
 {
     let arg = argument(alloc, args, 0, Formal::Value)?;
-    let given = value(alloc, arg, heap, files, steps)?;
-    Ok(printed(alloc, &given, heap, steps)?)
+    let given = value(alloc, arg, setting, files, steps)?;
+    Ok(printed(alloc, &given, setting.heap, steps)?)
 }
 
 /// The bytes of a table as a file.
@@ -109,15 +104,17 @@ fn written<L: Ledger>(
     alloc: Global,
     given: &Given<'_>,
     file: &Expr,
-    heap: &Heap,
+    setting: &Setting<'_>,
     steps: &mut Steps<L>,
 ) -> Result<Effect, EvalFail>
-    requires { IsValueIn heap.now given.now.value }
-    ensures answer { AnswersAs plain_effect (written_given (state_of heap.now) (plain_given given.now) (meaning file.now).form) result }
-    ensures fits { IfOk result (λ e. FitsIn heap.now e.change) }
+    requires { IsValueIn setting.now.heap.now given.now.value }
+    ensures answer { AnswersAs (plain_effect setting.now.heap.now)
+        (written_given (state_of setting.now.heap.now)
+        (plain_given setting.now.heap.now given.now) (meaning file.now).form) result }
+    ensures fits { IfOk result (λ e. FitsIn setting.now.heap.now e.change) }
     ensures own { IfErr result IsOwn }
 {
-    let table = wanted_table(alloc, &given.value, heap)?;
+    let table = wanted_table(alloc, &given.value, setting.heap)?;
     let name = Text::make(alloc, named_file(alloc, file)?)?;
     let bytes = file_bytes(alloc, table, steps)?;
     Ok(Effect::writes(alloc, Written { name, bytes }, given.warns))
@@ -134,25 +131,20 @@ fn free_table(args: &[Arg]) -> usize
 fn fwrite<F: Files, L: Ledger>(
     alloc: Global,
     args: &[Arg],
-    heap: &Heap,
+    setting: &Setting<'_>,
     files: &mut F,
     steps: &mut Steps<L>,
 ) -> Result<Effect, ValueFail>
-    ensures told { IsSome (F.held files.old) → Gives plain_effect (command Func.Fwrite (map arg_meaning args.now) (scene (F.held files.old) heap.now)) result }
-    ensures fits { IfOk result (λ e. FitsIn heap.now e.change) }
-    ensures held { F.held files.new ≡ F.held files.old }
-    ensures failed { IsErrOf result ValueFail.ReadFault → Rose (F.read_faults files.old) (F.read_faults files.new) }
-    ensures quiet { NoReadFailed result → F.read_faults files.new ≡ F.read_faults files.old }
-    ensures read_faults { F.read_faults files.old ≤ F.read_faults files.new }
-    ensures misses { F.misses files.old ≤ F.misses files.new }
-    ensures longs { F.longs files.old ≤ F.longs files.new }
-    ensures write_faults { F.write_faults files.new ≡ F.write_faults files.old }
-    ensures cause { IfErr result (Blames (F.held files.old) (Rose (F.misses files.old) (F.misses files.new)) (Rose (F.longs files.old) (F.longs files.new))) }
+    ensures told { Does (F.held files.old) setting.now
+        (command Func.Fwrite (map arg_meaning args.now)) result }
+    ensures fits { IfOk result (λ e. FitsIn setting.now.heap.now e.change) }
+    ensures files { OnlyReads (files_seen F.held F.read_faults F.misses F.longs F.write_faults)
+        files.old files.new result }
 {
     let arg = argument(alloc, args, 0, Formal::Table)?;
-    let given = value(alloc, arg, heap, files, steps)?;
+    let given = value(alloc, arg, setting, files, steps)?;
     let file = argument(alloc, args, free_table(args), Formal::File)?;
-    Ok(written(alloc, &given, file, heap, steps)?)
+    Ok(written(alloc, &given, file, setting, steps)?)
 }
 
 /// The name that stands bare; anything else is E19 with `name`.
@@ -166,37 +158,41 @@ fn removable(alloc: Global, e: &Expr) -> Result<&str, EvalFail>
     }
 }
 
-/// What removes a name; one that is not bound is E02.
-fn removed(alloc: Global, name: &str, heap: &Heap) -> Result<Effect, EvalFail>
-    ensures answer { AnswersAs plain_effect (removed_name name.now (finite.get (state_of heap.now).names name.now)) result }
-    ensures fits { IfOk result (λ e. FitsIn heap.now e.change) }
+/// Whether the name is bound; one that is not is E02.
+fn bound(alloc: Global, name: &str, heap: &Heap) -> Result<(), EvalFail>
+    ensures answer { AnswersAs (λ u. model.changes_name (model.Remove name.now))
+        (removed_name name.now (finite.get (state_of heap.now).names name.now)) result }
     ensures own { IfErr result IsOwn }
 {
     match heap.look(name) {
         Look::Absent => Err(stop(alloc, Code::E02, name)),
-        Look::Table(_) | Look::Vector(_) => removal(alloc, name),
+        Look::Table(_) | Look::Vector(_) => Ok(()),
     }
 }
 
-fn removal(alloc: Global, name: &str) -> Result<Effect, EvalFail>
-    ensures effect { IfOk result (λ e. plain_effect e ≡ model.changes (model.Remove name.now)) }
-    ensures refused { IfErr result IsNoMemory }
-    ensures fits { (h : HeapSeen) → IfOk result (λ e. FitsIn h e.change) }
+/// What removes a name; one that is not bound is E02.
+fn removed(alloc: Global, name: &str, setting: &Setting<'_>) -> Result<Effect, EvalFail>
+    ensures answer { AnswersAs (plain_effect setting.now.heap.now)
+        (removed_name name.now (finite.get (state_of setting.now.heap.now).names name.now)) result }
+    ensures fits { IfOk result (λ e. FitsIn setting.now.heap.now e.change) }
     ensures own { IfErr result IsOwn }
 {
+    bound(alloc, name, setting.heap)?;
     let name = Text::make(alloc, name)?;
-    Ok(Effect::changes(alloc, Change::Remove { name }, Warns::none()))
+    let change = Change::of_name(NameChange::Remove { name });
+    Ok(Effect::changes(alloc, change, Warns::none()))
 }
 
 /// What `rm` does: the name is bound no longer.
-fn rm(alloc: Global, args: &[Arg], heap: &Heap) -> Result<Effect, EvalFail>
-    ensures answer { AnswersAs plain_effect (then_do (argument (map arg_meaning args.now) 0 Formal.Name) (λ a. then_do (bare_name a.form) (λ name. removed_name name (finite.get (state_of heap.now).names name)))) result }
-    ensures fits { IfOk result (λ e. FitsIn heap.now e.change) }
+fn rm(alloc: Global, args: &[Arg], setting: &Setting<'_>) -> Result<Effect, EvalFail>
+    ensures answer { AnswersAs (plain_effect setting.now.heap.now)
+        (removed_by (state_of setting.now.heap.now) (map arg_meaning args.now)) result }
+    ensures fits { IfOk result (λ e. FitsIn setting.now.heap.now e.change) }
     ensures own { IfErr result IsOwn }
 {
     let arg = argument(alloc, args, 0, Formal::Name)?;
     let name = removable(alloc, arg)?;
-    removed(alloc, name, heap)
+    removed(alloc, name, setting)
 }
 
 /// What a command does, once its arguments are bound.
@@ -204,26 +200,24 @@ pub fn command<F: Files, L: Ledger>(
     alloc: Global,
     f: Func,
     args: &[Arg],
-    heap: &Heap,
+    setting: &Setting<'_>,
     files: &mut F,
     steps: &mut Steps<L>,
 ) -> Result<Effect, ValueFail>
-    ensures told { IsSome (F.held files.old) → Gives plain_effect (command f (map arg_meaning args.now) (scene (F.held files.old) heap.now)) result }
-    ensures fits { IfOk result (λ e. FitsIn heap.now e.change) }
-    ensures held { F.held files.new ≡ F.held files.old }
-    ensures failed { IsErrOf result ValueFail.ReadFault → Rose (F.read_faults files.old) (F.read_faults files.new) }
-    ensures quiet { NoReadFailed result → F.read_faults files.new ≡ F.read_faults files.old }
-    ensures read_faults { F.read_faults files.old ≤ F.read_faults files.new }
-    ensures misses { F.misses files.old ≤ F.misses files.new }
-    ensures longs { F.longs files.old ≤ F.longs files.new }
-    ensures write_faults { F.write_faults files.new ≡ F.write_faults files.old }
-    ensures cause { IfErr result (Blames (F.held files.old) (Rose (F.misses files.old) (F.misses files.new)) (Rose (F.longs files.old) (F.longs files.new))) }
+    ensures told { Does (F.held files.old) setting.now
+        (command f (map arg_meaning args.now)) result }
+    ensures fits { IfOk result (λ e. FitsIn setting.now.heap.now e.change) }
+    ensures files { OnlyReads (files_seen F.held F.read_faults F.misses F.longs F.write_faults)
+        files.old files.new result }
 {
     match f {
-        Func::Library => Ok(library(alloc, args)?),
-        Func::Print => print(alloc, args, heap, files, steps),
-        Func::Fwrite => fwrite(alloc, args, heap, files, steps),
-        Func::Rm => Ok(rm(alloc, args, heap)?),
+        Func::Library => {
+            package(alloc, args)?;
+            Ok(Effect::nothing(alloc))
+        }
+        Func::Print => print(alloc, args, setting, files, steps),
+        Func::Fwrite => fwrite(alloc, args, setting, files, steps),
+        Func::Rm => Ok(rm(alloc, args, setting)?),
         _ => Err(refusal_unbuilt(alloc)),
     }
 }

@@ -1,19 +1,25 @@
-ghost use Rattle.std.specs.Prelude.{IfErr, ◌≡◌, IfOk};
+ghost use Rattle.std.specs.Prelude.{◌≡◌, IfErr, IfOk, Ok};
+ghost use Rattle.dt_table.specs.Change.{FitsTable};
+ghost use Rattle.dt_table.specs.Plain.{plain_changed};
 ghost use Rattle.eval_fail.specs.Answers.{AnswersAs, IsOwn};
 ghost use Rattle.session_model.specs.Calls.{printed_given};
-ghost use Rattle.session_model.specs.Statement.{bare};
-ghost use Rattle.session_model.specs.Value.{printed_value};
-ghost use Rattle.stmt_effect.specs.Effects.{plain_effect, FitsIn};
-ghost use Rattle.stmt_value.specs.Values.{plain_value, plain_given, IsValueIn};
+ghost use Rattle.session_model.specs.Statement.{bare, shown_text};
+ghost use Rattle.session_model.specs.Value.{printed_plain, printed_value};
+ghost use Rattle.stmt_change.specs.Effects.{plain_effect, FitsIn};
+ghost use Rattle.stmt_change.specs.Places.{table_at};
+ghost use Rattle.stmt_effect.specs.Commands.{value_printed};
+ghost use Rattle.stmt_value.specs.Values.{plain_value, plain_given, IsGivenIn, IsValueIn};
+ghost use Rattle.table_heap.specs.Seen.{IsAt};
 ghost use Rattle.table_heap.specs.State.{state_of};
 
-use crate::effect::Effect;
+use crate::assigned::table_change;
 use dt_base::{Code, Steps};
 use dt_print::{null_text, table_text, vector_text};
 use eval_fail::{EvalFail, stop};
 use std::alloc::{AllocError, Global};
 use std::sync::ledger::Ledger;
-use stmt_value::{Given, Value};
+use stmt_change::{Change, Effect, NameChange};
+use stmt_value::{Altered, Given, Value};
 use table_heap::Heap;
 
 /// How a value prints.
@@ -24,7 +30,8 @@ fn value_text<L: Ledger>(
     steps: &mut Steps<L>,
 ) -> Result<Vec<u8>, AllocError>
     requires { IsValueIn heap.now value.now }
-    ensures { IfOk result (λ v. v.items ≡ printed_value (state_of heap.now) (plain_value value.now)) }
+    ensures { IfOk result (λ v.
+        v.items ≡ printed_value (state_of heap.now) (plain_value value.now)) }
 {
     match value {
         Value::Named(id) => table_text(alloc, heap.table(*id), steps),
@@ -35,15 +42,82 @@ fn value_text<L: Ledger>(
     }
 }
 
-/// A value that is given no name prints.
+/// How a table that is altered prints: as it is then.
+fn altered_text<L: Ledger>(
+    alloc: Global,
+    altered: &Altered,
+    heap: &Heap,
+    steps: &mut Steps<L>,
+) -> Result<Vec<u8>, AllocError>
+    requires live { IsAt heap.now altered.now.id }
+    requires fits { FitsTable (table_at heap.now altered.now.id) altered.now.parts }
+    ensures { IfOk result (λ v.
+        v.items ≡ printed_plain
+        (plain_changed (table_at heap.now altered.now.id) altered.now.parts)) }
+{
+    let table = heap.table(altered.id);
+    let changed = table.preview(alloc, &altered.parts, steps)?;
+    table_text(alloc, &changed, steps)
+}
+
+/// What a value that is given no name prints: itself where it is shown, else nothing.
+fn shown_text<L: Ledger>(
+    alloc: Global,
+    given: &Given<'_>,
+    heap: &Heap,
+    steps: &mut Steps<L>,
+) -> Result<Vec<u8>, AllocError>
+    requires { IsGivenIn heap.now given.now }
+    ensures { IfOk result (λ v.
+        v.items ≡ shown_text (state_of heap.now) (plain_given heap.now given.now)) }
+{
+    if !given.shown {
+        return Ok(Vec::new(alloc));
+    }
+    match &given.altered {
+        None => value_text(alloc, &given.value, heap, steps),
+        Some(altered) => altered_text(alloc, altered, heap, steps),
+    }
+}
+
+/// A value that is given no name prints, where it is shown, and the table that it alters changes.
 pub fn bare<L: Ledger>(
+    alloc: Global,
+    given: Given<'_>,
+    heap: &Heap,
+    steps: &mut Steps<L>,
+) -> Result<Effect, EvalFail>
+    requires { IsGivenIn heap.now given }
+    ensures answer { AnswersAs (plain_effect heap.now)
+        (bare (state_of heap.now) (plain_given heap.now given.entry)) result }
+    ensures fits { IfOk result (λ e. FitsIn heap.now e.change) }
+    ensures own { IfErr result IsOwn }
+{
+    let text = shown_text(alloc, &given, heap, steps)?;
+    let warns = given.warns;
+    let change = Change {
+        table: table_change(given.altered),
+        name: NameChange::Nothing,
+        options: None,
+    };
+    Ok(Effect {
+        text,
+        file: None,
+        warns,
+        change,
+    })
+}
+
+/// The text of a value, as an effect.
+fn value_printed<L: Ledger>(
     alloc: Global,
     given: &Given<'_>,
     heap: &Heap,
     steps: &mut Steps<L>,
 ) -> Result<Effect, EvalFail>
     requires { IsValueIn heap.now given.now.value }
-    ensures answer { AnswersAs plain_effect (bare (state_of heap.now) (plain_given given.now)) result }
+    ensures answer { AnswersAs (plain_effect heap.now)
+        (Ok (value_printed (state_of heap.now) (plain_given heap.now given.now))) result }
     ensures fits { IfOk result (λ e. FitsIn heap.now e.change) }
     ensures own { IfErr result IsOwn }
 {
@@ -59,14 +133,15 @@ pub fn printed<L: Ledger>(
     steps: &mut Steps<L>,
 ) -> Result<Effect, EvalFail>
     requires { IsValueIn heap.now given.now.value }
-    ensures answer { AnswersAs plain_effect (printed_given (state_of heap.now) (plain_given given.now)) result }
+    ensures answer { AnswersAs (plain_effect heap.now)
+        (printed_given (state_of heap.now) (plain_given heap.now given.now)) result }
     ensures fits { IfOk result (λ e. FitsIn heap.now e.change) }
     ensures own { IfErr result IsOwn }
 {
     match &given.value {
         Value::Null => Err(stop(alloc, Code::E04, "NULL")),
         Value::Named(_) | Value::New(_) | Value::Cells(_) | Value::Kept(_) => {
-            bare(alloc, given, heap, steps)
+            value_printed(alloc, given, heap, steps)
         }
     }
 }

@@ -1,19 +1,16 @@
-ghost use Rattle.std.specs.Prelude.{◌≡◌, ◌≤◌, IfOk, IfErr, IsSome, IsErrOf, Some, map};
-ghost use Rattle.dt_world.specs.Causes.{Rose};
+ghost use Rattle.std.specs.Prelude.{IfOk, IsSome, Some, map};
+ghost use Rattle.file_value.specs.Answers.{Gives};
+ghost use Rattle.file_value.specs.Reads.{OnlyReads, files_seen};
 ghost use Rattle.func_table.specs.Calls.{func_of, kind_of};
 ghost use Rattle.session_model.specs.Calls.{command_of, command_named, command_step, bound_command};
 ghost use Rattle.session_model.specs.Meaning.{meaning, arg_meaning};
 ghost use Rattle.session_model.specs.Statement.{value_step, step_of, step};
 ghost use Rattle.session_model.specs.World.{look};
-ghost use Rattle.stmt_effect.specs.Effects.{plain_effect, FitsIn};
-ghost use Rattle.stmt_value.specs.Answers.{Gives, Blames};
-ghost use Rattle.stmt_value.specs.Reads.{NoReadFailed};
-ghost use Rattle.stmt_value.specs.Values.{scene};
-ghost use Rattle.table_heap.specs.State.{state_of};
+ghost use Rattle.stmt_change.specs.Effects.{plain_effect, FitsIn};
+ghost use Rattle.stmt_effect.specs.Does.{Does, session_of};
 
 use crate::assigned::assigned;
 use crate::commands::command;
-use crate::effect::Effect;
 use crate::printed::bare;
 use arg_bind::bind;
 use dt_base::{Code, Steps, Text};
@@ -22,32 +19,27 @@ use dt_world::Files;
 use func_table::{Func, Kind, func_named, func_word, kind_of};
 use std::alloc::Global;
 use std::sync::ledger::Ledger;
-use stmt_value::{ValueFail, is_served, refusal, refusal_unbuilt, value};
-use table_heap::Heap;
+use stmt_change::Effect;
+use stmt_value::{Setting, ValueFail, is_served, refusal, refusal_unbuilt, whole};
 
 /// What a statement does whose expression is a value.
 fn value_step<F: Files, L: Ledger>(
     alloc: Global,
     e: &Expr,
     target: &Option<Text>,
-    heap: &Heap,
+    setting: &Setting<'_>,
     files: &mut F,
     steps: &mut Steps<L>,
 ) -> Result<Effect, ValueFail>
-    ensures told { IsSome (F.held files.old) → Gives plain_effect (value_step target.now (meaning e.now) (scene (F.held files.old) heap.now)) result }
-    ensures fits { IfOk result (λ e. FitsIn heap.now e.change) }
-    ensures held { F.held files.new ≡ F.held files.old }
-    ensures failed { IsErrOf result ValueFail.ReadFault → Rose (F.read_faults files.old) (F.read_faults files.new) }
-    ensures quiet { NoReadFailed result → F.read_faults files.new ≡ F.read_faults files.old }
-    ensures read_faults { F.read_faults files.old ≤ F.read_faults files.new }
-    ensures misses { F.misses files.old ≤ F.misses files.new }
-    ensures longs { F.longs files.old ≤ F.longs files.new }
-    ensures write_faults { F.write_faults files.new ≡ F.write_faults files.old }
-    ensures cause { IfErr result (Blames (F.held files.old) (Rose (F.misses files.old) (F.misses files.new)) (Rose (F.longs files.old) (F.longs files.new))) }
+    ensures told { Does (F.held files.old) setting.now
+        (value_step target.now (meaning e.now)) result }
+    ensures fits { IfOk result (λ e. FitsIn setting.now.heap.now e.change) }
+    ensures files { OnlyReads (files_seen F.held F.read_faults F.misses F.longs F.write_faults)
+        files.old files.new result }
 {
-    let given = value(alloc, e, heap, files, steps)?;
+    let given = whole(alloc, e, setting, files, steps)?;
     match target {
-        None => Ok(bare(alloc, &given, heap, steps)?),
+        None => Ok(bare(alloc, given, setting.heap, steps)?),
         Some(name) => Ok(assigned(alloc, name, given, steps)?),
     }
 }
@@ -58,23 +50,18 @@ fn command_step<F: Files, L: Ledger>(
     f: Func,
     args: &[Arg],
     target: &Option<Text>,
-    heap: &Heap,
+    setting: &Setting<'_>,
     files: &mut F,
     steps: &mut Steps<L>,
 ) -> Result<Effect, ValueFail>
-    ensures told { IsSome (F.held files.old) → Gives plain_effect (command_step f (map arg_meaning args.now) target.now (scene (F.held files.old) heap.now)) result }
-    ensures fits { IfOk result (λ e. FitsIn heap.now e.change) }
-    ensures held { F.held files.new ≡ F.held files.old }
-    ensures failed { IsErrOf result ValueFail.ReadFault → Rose (F.read_faults files.old) (F.read_faults files.new) }
-    ensures quiet { NoReadFailed result → F.read_faults files.new ≡ F.read_faults files.old }
-    ensures read_faults { F.read_faults files.old ≤ F.read_faults files.new }
-    ensures misses { F.misses files.old ≤ F.misses files.new }
-    ensures longs { F.longs files.old ≤ F.longs files.new }
-    ensures write_faults { F.write_faults files.new ≡ F.write_faults files.old }
-    ensures cause { IfErr result (Blames (F.held files.old) (Rose (F.misses files.old) (F.misses files.new)) (Rose (F.longs files.old) (F.longs files.new))) }
+    ensures told { Does (F.held files.old) setting.now
+        (command_step f (map arg_meaning args.now) target.now) result }
+    ensures fits { IfOk result (λ e. FitsIn setting.now.heap.now e.change) }
+    ensures files { OnlyReads (files_seen F.held F.read_faults F.misses F.longs F.write_faults)
+        files.old files.new result }
 {
     match target {
-        None => bound_command(alloc, f, args, heap, files, steps),
+        None => bound_command(alloc, f, args, setting, files, steps),
         Some(_) => Err(refusal(alloc, Code::E19, func_word(f))),
     }
 }
@@ -84,23 +71,18 @@ fn bound_command<F: Files, L: Ledger>(
     alloc: Global,
     f: Func,
     args: &[Arg],
-    heap: &Heap,
+    setting: &Setting<'_>,
     files: &mut F,
     steps: &mut Steps<L>,
 ) -> Result<Effect, ValueFail>
-    ensures told { IsSome (F.held files.old) → Gives plain_effect (bound_command f (map arg_meaning args.now) (scene (F.held files.old) heap.now)) result }
-    ensures fits { IfOk result (λ e. FitsIn heap.now e.change) }
-    ensures held { F.held files.new ≡ F.held files.old }
-    ensures failed { IsErrOf result ValueFail.ReadFault → Rose (F.read_faults files.old) (F.read_faults files.new) }
-    ensures quiet { NoReadFailed result → F.read_faults files.new ≡ F.read_faults files.old }
-    ensures read_faults { F.read_faults files.old ≤ F.read_faults files.new }
-    ensures misses { F.misses files.old ≤ F.misses files.new }
-    ensures longs { F.longs files.old ≤ F.longs files.new }
-    ensures write_faults { F.write_faults files.new ≡ F.write_faults files.old }
-    ensures cause { IfErr result (Blames (F.held files.old) (Rose (F.misses files.old) (F.misses files.new)) (Rose (F.longs files.old) (F.longs files.new))) }
+    ensures told { Does (F.held files.old) setting.now
+        (bound_command f (map arg_meaning args.now)) result }
+    ensures fits { IfOk result (λ e. FitsIn setting.now.heap.now e.change) }
+    ensures files { OnlyReads (files_seen F.held F.read_faults F.misses F.longs F.write_faults)
+        files.old files.new result }
 {
     bind(alloc, f, args)?;
-    command(alloc, f, args, heap, files, steps)
+    command(alloc, f, args, setting, files, steps)
 }
 
 /// What a statement does whose expression is a call.
@@ -110,24 +92,20 @@ fn call_step<F: Files, L: Ledger>(
     name: &str,
     args: &[Arg],
     target: &Option<Text>,
-    heap: &Heap,
+    setting: &Setting<'_>,
     files: &mut F,
     steps: &mut Steps<L>,
 ) -> Result<Effect, ValueFail>
-    ensures told { IsSome (F.held files.old) → Gives plain_effect (step_of (command_named (func_of name.now) (map arg_meaning args.now)) target.now (meaning e.now) (scene (F.held files.old) heap.now)) result }
-    ensures fits { IfOk result (λ e. FitsIn heap.now e.change) }
-    ensures held { F.held files.new ≡ F.held files.old }
-    ensures failed { IsErrOf result ValueFail.ReadFault → Rose (F.read_faults files.old) (F.read_faults files.new) }
-    ensures quiet { NoReadFailed result → F.read_faults files.new ≡ F.read_faults files.old }
-    ensures read_faults { F.read_faults files.old ≤ F.read_faults files.new }
-    ensures misses { F.misses files.old ≤ F.misses files.new }
-    ensures longs { F.longs files.old ≤ F.longs files.new }
-    ensures write_faults { F.write_faults files.new ≡ F.write_faults files.old }
-    ensures cause { IfErr result (Blames (F.held files.old) (Rose (F.misses files.old) (F.misses files.new)) (Rose (F.longs files.old) (F.longs files.new))) }
+    ensures told { Does (F.held files.old) setting.now
+        (step_of (command_named (func_of name.now) (map arg_meaning args.now)) target.now
+        (meaning e.now)) result }
+    ensures fits { IfOk result (λ e. FitsIn setting.now.heap.now e.change) }
+    ensures files { OnlyReads (files_seen F.held F.read_faults F.misses F.longs F.write_faults)
+        files.old files.new result }
 {
     match func_named(name) {
-        None => value_step(alloc, e, target, heap, files, steps),
-        Some(f) => known_step(alloc, e, f, args, target, heap, files, steps),
+        None => value_step(alloc, e, target, setting, files, steps),
+        Some(f) => known_step(alloc, e, f, args, target, setting, files, steps),
     }
 }
 
@@ -138,26 +116,22 @@ fn known_step<F: Files, L: Ledger>(
     f: Func,
     args: &[Arg],
     target: &Option<Text>,
-    heap: &Heap,
+    setting: &Setting<'_>,
     files: &mut F,
     steps: &mut Steps<L>,
 ) -> Result<Effect, ValueFail>
-    ensures told { IsSome (F.held files.old) → Gives plain_effect (step_of (command_of (kind_of f) f (map arg_meaning args.now)) target.now (meaning e.now) (scene (F.held files.old) heap.now)) result }
-    ensures fits { IfOk result (λ e. FitsIn heap.now e.change) }
-    ensures held { F.held files.new ≡ F.held files.old }
-    ensures failed { IsErrOf result ValueFail.ReadFault → Rose (F.read_faults files.old) (F.read_faults files.new) }
-    ensures quiet { NoReadFailed result → F.read_faults files.new ≡ F.read_faults files.old }
-    ensures read_faults { F.read_faults files.old ≤ F.read_faults files.new }
-    ensures misses { F.misses files.old ≤ F.misses files.new }
-    ensures longs { F.longs files.old ≤ F.longs files.new }
-    ensures write_faults { F.write_faults files.new ≡ F.write_faults files.old }
-    ensures cause { IfErr result (Blames (F.held files.old) (Rose (F.misses files.old) (F.misses files.new)) (Rose (F.longs files.old) (F.longs files.new))) }
+    ensures told { Does (F.held files.old) setting.now
+        (step_of (command_of (kind_of f) f (map arg_meaning args.now)) target.now
+        (meaning e.now)) result }
+    ensures fits { IfOk result (λ e. FitsIn setting.now.heap.now e.change) }
+    ensures files { OnlyReads (files_seen F.held F.read_faults F.misses F.longs F.write_faults)
+        files.old files.new result }
 {
     match kind_of(f) {
         Kind::Table | Kind::Vector | Kind::Description => {
-            value_step(alloc, e, target, heap, files, steps)
+            value_step(alloc, e, target, setting, files, steps)
         }
-        Kind::Command => command_step(alloc, f, args, target, heap, files, steps),
+        Kind::Command => command_step(alloc, f, args, target, setting, files, steps),
     }
 }
 
@@ -166,20 +140,15 @@ fn served_step<F: Files, L: Ledger>(
     alloc: Global,
     e: &Expr,
     target: &Option<Text>,
-    heap: &Heap,
+    setting: &Setting<'_>,
     files: &mut F,
     steps: &mut Steps<L>,
 ) -> Result<Effect, ValueFail>
-    ensures told { IsSome (F.held files.old) → Gives plain_effect (step_of (meaning e.now).command target.now (meaning e.now) (scene (F.held files.old) heap.now)) result }
-    ensures fits { IfOk result (λ e. FitsIn heap.now e.change) }
-    ensures held { F.held files.new ≡ F.held files.old }
-    ensures failed { IsErrOf result ValueFail.ReadFault → Rose (F.read_faults files.old) (F.read_faults files.new) }
-    ensures quiet { NoReadFailed result → F.read_faults files.new ≡ F.read_faults files.old }
-    ensures read_faults { F.read_faults files.old ≤ F.read_faults files.new }
-    ensures misses { F.misses files.old ≤ F.misses files.new }
-    ensures longs { F.longs files.old ≤ F.longs files.new }
-    ensures write_faults { F.write_faults files.new ≡ F.write_faults files.old }
-    ensures cause { IfErr result (Blames (F.held files.old) (Rose (F.misses files.old) (F.misses files.new)) (Rose (F.longs files.old) (F.longs files.new))) }
+    ensures told { Does (F.held files.old) setting.now
+        (step_of (meaning e.now).command target.now (meaning e.now)) result }
+    ensures fits { IfOk result (λ e. FitsIn setting.now.heap.now e.change) }
+    ensures files { OnlyReads (files_seen F.held F.read_faults F.misses F.longs F.write_faults)
+        files.old files.new result }
 {
     match e {
         Expr::Call { name, args } => {
@@ -189,19 +158,19 @@ fn served_step<F: Files, L: Ledger>(
                 name.as_str(),
                 args.as_slice(),
                 target,
-                heap,
+                setting,
                 files,
                 steps,
             )
         }
         Expr::Lit { .. } | Expr::Null | Expr::Infinite | Expr::Name { .. } => {
-            value_step(alloc, e, target, heap, files, steps)
+            value_step(alloc, e, target, setting, files, steps)
         }
         Expr::Paren { .. } | Expr::Minus { .. } | Expr::Not { .. } | Expr::Chain { .. } => {
-            value_step(alloc, e, target, heap, files, steps)
+            value_step(alloc, e, target, setting, files, steps)
         }
         Expr::Query { .. } | Expr::Formula { .. } => {
-            value_step(alloc, e, target, heap, files, steps)
+            value_step(alloc, e, target, setting, files, steps)
         }
     }
 }
@@ -209,31 +178,28 @@ fn served_step<F: Files, L: Ledger>(
 /// What a statement does, or its first fault. A form that no statement serves yet is E19 with
 /// `unbuilt`, before anything else is looked at.
 ///
-/// A value without a name prints. With a name, a table that has one gets one more, a vector is
-/// copied, a new table gets its first name, and NULL is E19 with the name. A command is a whole
+/// A value without a name prints, but what an assignment gives does not, unless an empty bracket
+/// stands behind it. With a name, a table that has one gets one more, a vector is copied, a new
+/// table gets its first name, and NULL is E19 with the name. A command is a whole
 /// statement; with a name to assign to it is E19 with the command's name. The manual's pages
 /// data.table, copy, fread and fwrite; the order of faults is dtq's own, docs/LANGUAGE.md, section
 /// "Statements".
 pub fn compute<F: Files, L: Ledger>(
     alloc: Global,
     stmt: &Stmt,
-    heap: &Heap,
+    setting: &Setting<'_>,
     files: &mut F,
     steps: &mut Steps<L>,
 ) -> Result<Effect, ValueFail>
-    ensures told { IsSome (F.held files.old) → Gives plain_effect (step (look (F.held files.old)) (state_of heap.now) stmt.now) result }
-    ensures fits { IfOk result (λ e. FitsIn heap.now e.change) }
-    ensures held { F.held files.new ≡ F.held files.old }
-    ensures failed { IsErrOf result ValueFail.ReadFault → Rose (F.read_faults files.old) (F.read_faults files.new) }
-    ensures quiet { NoReadFailed result → F.read_faults files.new ≡ F.read_faults files.old }
-    ensures read_faults { F.read_faults files.old ≤ F.read_faults files.new }
-    ensures misses { F.misses files.old ≤ F.misses files.new }
-    ensures longs { F.longs files.old ≤ F.longs files.new }
-    ensures write_faults { F.write_faults files.new ≡ F.write_faults files.old }
-    ensures cause { IfErr result (Blames (F.held files.old) (Rose (F.misses files.old) (F.misses files.new)) (Rose (F.longs files.old) (F.longs files.new))) }
+    ensures told { IsSome (F.held files.old)
+        → Gives (plain_effect setting.now.heap.now)
+        (step (look (F.held files.old)) (session_of setting.now) stmt.now) result }
+    ensures fits { IfOk result (λ e. FitsIn setting.now.heap.now e.change) }
+    ensures files { OnlyReads (files_seen F.held F.read_faults F.misses F.longs F.write_faults)
+        files.old files.new result }
 {
     if !is_served(&stmt.expr, false) {
         return Err(refusal_unbuilt(alloc));
     }
-    served_step(alloc, &stmt.expr, &stmt.target, heap, files, steps)
+    served_step(alloc, &stmt.expr, &stmt.target, setting, files, steps)
 }

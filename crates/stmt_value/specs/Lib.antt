@@ -1,6 +1,4 @@
-pub mod Answers
 pub mod Calls
-pub mod Fails
-pub mod Joins
-pub mod Reads
+pub mod Chains
+pub mod Told
 pub mod Values

@@ -1,18 +1,34 @@
 -- What contracts see of a value.
---   plain_value v     a table by its number or as a plain table, a column as its vector, or NULL
---   plain_given g     a value and its warnings
---   scene held heap   the files and the state that a statement meets
---   IsValueIn h v     a table that has an Id is live
-use Rattle.std.specs.Prelude.{Option}
-use Rattle.dt_table.specs.Plain.{plain}
+--   plain_value v       a table by its number or as a plain table, a column as its vector, or NULL
+--   plain_altered h a   the number of an altered table, and the plain table that it becomes
+--   plain_given h g     a value, its warnings, the table that it alters, and whether it is shown
+--   scene held s        the files, the state and the options that a statement meets
+--   head_of h v         the table that a value is before a bracket
+--   assigned_given ..   what is given where that table is assigned to
+--   IsValueIn h v       a table that has an Id is live
+--   IsGivenIn h g       so is a table that is altered, and its change fits it
+--   FitsOwn v ch, FitsOutcome v o    a change of a table that has no name fits it
+use Rattle.std.specs.Prelude.{◌≡◌, ℕ, false, Option, None, Some, option_map}
+use Rattle.dt_query.specs.declared.answer.Outcome.{Outcome}
+use Rattle.dt_query.specs.declared.answer.Outcome.TheVariants.{Assigned}
+use Rattle.dt_base.specs.declared.warns.Warns.{Warns}
+use Rattle.dt_model.specs.Table.{PlainTable}
+use Rattle.dt_table.specs.Change.{ChangeSeen, FitsTable}
+use Rattle.dt_table.specs.Plain.{plain, plain_changed}
+use Rattle.dt_table.specs.Table.{TableSeen}
 use Rattle.dt_world.specs.Told.{FileMap}
+use Rattle.session_model.specs.Meanings as gives
+use Rattle.session_model.specs.Query.{altered, value_assigned}
 use Rattle.session_model.specs.Value as model
 use Rattle.session_model.specs.World.{look}
+use Rattle.stmt_change.specs.Places.{table_at, without_columns}
 use Rattle.table_heap.specs.Seen.{HeapSeen, IsAt}
 use Rattle.table_heap.specs.State.{state_of}
+use Rattle.stmt_value.specs.declared.given.Altered.{Altered}
+use Rattle.stmt_value.specs.declared.given.Given.{Given}
 use Rattle.stmt_value.specs.declared.given.Value.{Value}
 use Rattle.stmt_value.specs.declared.given.Value.TheVariants.{Named, New, Cells, Kept, Null}
-use Rattle.stmt_value.specs.declared.given.Given.{Given}
+use Rattle.stmt_setting.specs.declared.setting.Setting.{Setting}
 
 -- a table by its number or as a plain table, a column as its vector, or NULL
 abbrev pub plain_value : Value → model.Value
@@ -22,15 +38,60 @@ plain_value (Cells column) = model.Cells column.vector
 plain_value (Kept column) = model.Cells column.now.vector
 plain_value Null = model.Null
 
--- a value and its warnings
-abbrev pub plain_given : Given → model.Given
-plain_given g = record { value = plain_value g.value; warns = g.warns }
+-- the number of an altered table, and the plain table that it becomes
+abbrev pub plain_altered : HeapSeen → Altered → ℕ × PlainTable
+plain_altered h a = (a.id.number, plain_changed (table_at h a.id) a.parts)
 
--- the files and the state that a statement meets
-abbrev pub scene : Option FileMap → HeapSeen → model.Scene
-scene held heap = record { files = look held; state = state_of heap }
+abbrev pub plain_given : HeapSeen → Given → model.Given
+plain_given h g = record {
+  value = plain_value g.value;
+  warns = g.warns;
+  alters = option_map (plain_altered h) g.altered;
+  shown = g.shown;
+}
+
+-- the files, the state and the options that a statement meets
+abbrev pub scene : Option FileMap → Setting → model.Scene
+scene held s = record { files = look held; state = state_of s.heap.now; options = s.options }
+
+-- ---- The table before a bracket
+
+-- the table of an Id, or a new one; what is no table has no columns
+abbrev pub head_of : HeapSeen → Value → TableSeen
+head_of h (Named id) = table_at h id
+head_of h (New t) = t
+head_of h _ = without_columns
+
+-- what is given where that table is assigned to
+abbrev pub assigned_given : HeapSeen → Value → ChangeSeen → Warns → model.Given
+assigned_given h v parts warns = record {
+  value = value_assigned (plain_value v) (plain_changed (head_of h v) parts);
+  warns = warns;
+  alters = altered (plain_value v) (gives.Assigned (plain_changed (head_of h v) parts));
+  shown = false;
+}
+
+-- ---- What is so of values
 
 -- a table that has an Id is live
 abbrev pub IsValueIn : HeapSeen → Value → Type 0
 IsValueIn h (Named id) = IsAt h id
 IsValueIn h _ = Unit {0}
+
+-- a table that is altered is the value itself; it is live, and its change fits it
+abbrev pub IsAlteredIn : HeapSeen → Value → Option Altered → Type 0
+IsAlteredIn h v None = Unit {0}
+IsAlteredIn h v (Some a) = (v ≡ Named a.id) × (IsAt h a.id × FitsTable (table_at h a.id) a.parts)
+
+pub record IsGivenIn (h : HeapSeen) (g : Given) : Type 0 where
+  pub value : IsValueIn h g.value
+  pub altered : IsAlteredIn h g.value g.altered
+
+-- a change of a table that has no name fits it
+abbrev pub FitsOwn : Value → ChangeSeen → Type 0
+FitsOwn (New t) ch = FitsTable t ch
+FitsOwn _ ch = Unit {0}
+
+abbrev pub FitsOutcome : Value → Outcome → Type 0
+FitsOutcome v (Assigned ch) = FitsOwn v ch
+FitsOutcome v _ = Unit {0}

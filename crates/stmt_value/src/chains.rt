@@ -1,35 +1,29 @@
 ghost use Rattle.std.specs.Prelude.{◌≡◌, IfOk, IfErr, map};
-ghost use Rattle.eval_fail.specs.Answers.{Answers, AnswersAs, IsStop, IsOwn};
 ghost use Rattle.dt_table.specs.Plain.{plain};
-ghost use Rattle.session_model.specs.Meaning.{meaning, arg_meaning, bracket_meaning};
-ghost use Rattle.session_model.specs.Query.{head_table, argument_fault, no_arguments, bracketed, chained};
-ghost use Rattle.stmt_value.specs.Values.{plain_value, plain_given, IsValueIn};
+ghost use Rattle.eval_fail.specs.Answers.{AnswersAs, IsOwn};
+ghost use Rattle.session_model.specs.Meaning.{meaning, bracket_meaning};
+ghost use Rattle.session_model.specs.Query.{head_table, shown_after, bracketed, chained};
+ghost use Rattle.stmt_value.specs.Chains.{answered};
+ghost use Rattle.stmt_value.specs.Values.{plain_value, plain_given, head_of, IsGivenIn, IsValueIn};
+ghost use Rattle.table_heap.specs.Seen.{HeapSeen};
 ghost use Rattle.table_heap.specs.State.{state_of};
 
-use crate::forms::written_name;
 use crate::given::{Given, Value};
-use crate::vars::ScriptNames;
 use dt_base::{Code, Steps};
-use dt_query::{Options, run_query};
+use dt_query::{is_empty, run_query};
 use dt_table::Table;
-use dt_tree::{Arg, Bracket, Expr};
-use eval_fail::{EvalFail, stop, stop_unbuilt};
-use func_table::is_bracket_argument;
+use dt_tree::{Bracket, Expr};
+use eval_fail::{EvalFail, stop};
 use std::alloc::Global;
 use std::sync::ledger::Ledger;
+use stmt_setting::Setting;
 use table_heap::Heap;
 
 /// The word of what stands before a bracket and has no name.
 const NO_NAME: &str = "[";
 
-/// The options of every session; neither changes what a bracket gives.
-const BOTH_ON: Options = Options {
-    auto_index: true,
-    use_index: true,
-};
-
-/// What an expression is called as the head of a bracket: a name by itself, also in parentheses, and
-/// anything else `[`.
+/// What an expression is called as the head of a bracket: a name by itself, also in parentheses,
+/// and anything else `[`.
 pub fn called(e: &Expr) -> &str
     ensures { result.now ≡ (meaning e.now).called }
 {
@@ -48,7 +42,9 @@ fn head_table<'v>(
     heap: &'v Heap,
 ) -> Result<&'v Table, EvalFail>
     requires { IsValueIn heap.now value.now }
-    ensures answer { AnswersAs (λ t. plain t.now) (head_table (state_of heap.now) word.now (plain_value value.now)) result }
+    ensures answer { AnswersAs (λ t. plain t.now)
+        (head_table (state_of heap.now) word.now (plain_value value.now)) result }
+    ensures table { IfOk result (λ t. t.now ≡ head_of heap.now value.now) }
     ensures own { IfErr result IsOwn }
 {
     match value {
@@ -59,27 +55,52 @@ fn head_table<'v>(
     }
 }
 
-/// The fault of a bracket's argument of this name: none is served yet.
-fn argument_fault(alloc: Global, name: &str) -> EvalFail
-    ensures answer { IsStop (argument_fault name.now) result }
-    ensures own { IsOwn result }
+/// What the bracket behind an assignment gives: an empty one shows the table, and any other is E01.
+fn shown_after<'a>(
+    alloc: Global,
+    given: Given<'a>,
+    bracket: &Bracket,
+) -> Result<Given<'a>, EvalFail>
+    ensures answer { (h : HeapSeen)
+        → AnswersAs (plain_given h)
+        (shown_after (plain_given h given.entry) (bracket_meaning bracket.now)) result }
+    ensures live { (h : HeapSeen) → IsGivenIn h given.entry → IfOk result (IsGivenIn h) }
+    ensures own { IfErr result IsOwn }
 {
-    if is_bracket_argument(name) {
-        stop_unbuilt(alloc)
+    if is_empty(bracket) {
+        Ok(given.shown())
     } else {
-        stop(alloc, Code::E19, name)
+        Err(stop(alloc, Code::E01, ""))
     }
 }
 
-/// A bracket without arguments that have a name, or the fault of the first.
-fn no_arguments(alloc: Global, args: &[Arg]) -> Result<(), EvalFail>
-    ensures answer { Answers (no_arguments (map arg_meaning args.now)) result }
+/// What a bracket gives behind a value.
+fn answered<'a, L: Ledger>(
+    alloc: Global,
+    word: &str,
+    given: Given<'a>,
+    bracket: &Bracket,
+    setting: &Setting<'_>,
+    steps: &mut Steps<L>,
+) -> Result<Given<'a>, EvalFail>
+    requires { IsGivenIn setting.now.heap.now given }
+    ensures answer { AnswersAs (plain_given setting.now.heap.now)
+        (answered (state_of setting.now.heap.now) word.now
+        (plain_given setting.now.heap.now given.entry) (bracket_meaning bracket.now)) result }
+    ensures live { IfOk result (IsGivenIn setting.now.heap.now) }
     ensures own { IfErr result IsOwn }
 {
-    match args.first() {
-        None => Ok(()),
-        Some(arg) => Err(argument_fault(alloc, written_name(arg))),
-    }
+    let table = head_table(alloc, word, &given.value, setting.heap)?;
+    let answer = run_query(
+        alloc,
+        bracket,
+        table,
+        None,
+        setting,
+        &setting.options,
+        steps,
+    )?;
+    Ok(given.after(answer, steps)?)
 }
 
 /// What a value and one bracket behind it give.
@@ -88,39 +109,43 @@ fn bracketed<'a, L: Ledger>(
     word: &str,
     given: Given<'a>,
     bracket: &Bracket,
-    heap: &Heap,
+    setting: &Setting<'_>,
     steps: &mut Steps<L>,
 ) -> Result<Given<'a>, EvalFail>
-    requires { IsValueIn heap.now given.value }
-    ensures answer { AnswersAs plain_given (bracketed (state_of heap.now) word.now (plain_given given.entry) (bracket_meaning bracket.now)) result }
-    ensures live { IfOk result (λ g. IsValueIn heap.now g.value) }
+    requires { IsGivenIn setting.now.heap.now given }
+    ensures answer { AnswersAs (plain_given setting.now.heap.now)
+        (bracketed (state_of setting.now.heap.now) word.now
+        (plain_given setting.now.heap.now given.entry) (bracket_meaning bracket.now)) result }
+    ensures live { IfOk result (IsGivenIn setting.now.heap.now) }
     ensures own { IfErr result IsOwn }
 {
-    let names = ScriptNames { heap };
-    let table = head_table(alloc, word, &given.value, heap)?;
-    no_arguments(alloc, bracket.args.as_slice())?;
-    let answer = run_query(alloc, bracket, table, None, &names, &BOTH_ON, steps)?;
-    Ok(given.after(answer))
+    if given.shown {
+        answered(alloc, word, given, bracket, setting, steps)
+    } else {
+        shown_after(alloc, given, bracket)
+    }
 }
 
-/// What a value and the brackets behind it give, from the left; `word` is what the value is called by.
+/// What a value and the brackets behind it give, from the left; `word` is what it is called by.
 pub fn chained<'a, L: Ledger>(
     alloc: Global,
     word: &str,
     given: Given<'a>,
     brackets: &[Bracket],
-    heap: &Heap,
+    setting: &Setting<'_>,
     steps: &mut Steps<L>,
 ) -> Result<Given<'a>, EvalFail>
-    requires { IsValueIn heap.now given.value }
-    ensures answer { AnswersAs plain_given (chained (state_of heap.now) word.now (plain_given given.entry) (map bracket_meaning brackets.now)) result }
-    ensures live { IfOk result (λ g. IsValueIn heap.now g.value) }
+    requires { IsGivenIn setting.now.heap.now given }
+    ensures answer { AnswersAs (plain_given setting.now.heap.now)
+        (chained (state_of setting.now.heap.now) word.now
+        (plain_given setting.now.heap.now given.entry) (map bracket_meaning brackets.now)) result }
+    ensures live { IfOk result (IsGivenIn setting.now.heap.now) }
     ensures own { IfErr result IsOwn }
 {
     let mut called = word;
     let mut whole = given;
     for bracket in brackets {
-        whole = bracketed(alloc, called, whole, bracket, heap, steps)?;
+        whole = bracketed(alloc, called, whole, bracket, setting, steps)?;
         called = NO_NAME;
     }
     Ok(whole)

@@ -1,26 +1,21 @@
-ghost use Rattle.std.specs.Prelude.{◌≡◌, ◌≤◌, IfOk, IfErr, IsSome, IsErrOf, Ok, Some, map};
+ghost use Rattle.std.specs.Prelude.{◌≡◌, IfOk, IfErr, Ok, map};
 ghost use Rattle.std.specs.FinMap as finite;
-ghost use Rattle.eval_fail.specs.Answers.{AnswersAs, IsOwn};
-ghost use Rattle.dt_world.specs.Causes.{Rose};
-ghost use Rattle.session_model.specs.Binding.{bound};
-ghost use Rattle.session_model.specs.Calls.{argument, named_file, copy_of, table_call};
-ghost use Rattle.session_model.specs.Expression.{names_in};
-ghost use Rattle.session_model.specs.Meaning.{meaning, arg_meaning, bracket_meaning, vector_gives};
-ghost use Rattle.session_model.specs.Query.{chained};
-ghost use Rattle.vector_model.specs.Then.{then_do};
 ghost use Rattle.dt_table.specs.Plain.{plain};
+ghost use Rattle.eval_fail.specs.Answers.{AnswersAs, IsOwn};
+ghost use Rattle.file_value.specs.Reads.{OnlyReads, files_seen};
 ghost use Rattle.func_table.specs.Calls.{func_of, kind_of};
-ghost use Rattle.session_model.specs.Value.{bound_value, wanted_table, copied};
+ghost use Rattle.session_model.specs.Calls.{argument, named_file, copy_of, table_call};
+ghost use Rattle.session_model.specs.Meaning.{meaning, arg_meaning, bracket_meaning};
+ghost use Rattle.session_model.specs.Meaning.{query_gives, vector_gives};
+ghost use Rattle.session_model.specs.Value.{bound_value, file_table, wanted_table, copied};
 ghost use Rattle.session_model.specs.Value as model;
-ghost use Rattle.stmt_value.specs.Answers.{Gives, Blames};
-ghost use Rattle.stmt_value.specs.Calls.{call_or, known_call};
-ghost use Rattle.stmt_value.specs.Reads.{NoReadFailed, OnlyReads, files_seen};
-ghost use Rattle.stmt_value.specs.Values.{plain_value, plain_given, scene, IsValueIn};
+ghost use Rattle.stmt_value.specs.Calls.{bound_table, call_or, copied_value, known_call};
+ghost use Rattle.stmt_value.specs.Told.{Told};
+ghost use Rattle.stmt_value.specs.Values.{plain_value, plain_given, scene, IsGivenIn, IsValueIn};
 ghost use Rattle.table_heap.specs.State.{state_of};
+ghost use Rattle.vector_model.specs.Then.{then_do};
 
 use crate::chains::{called, chained};
-use crate::fail::{ValueFail, unread};
-use crate::files::file_table;
 use crate::given::{Given, Value};
 use crate::vectors::{table_value, vector_value};
 use arg_bind::{bind, place, text_literal};
@@ -29,9 +24,11 @@ use dt_table::Table;
 use dt_tree::{Arg, Bracket, Expr};
 use dt_world::Files;
 use eval_fail::{EvalFail, stop, stop_unbuilt};
+use file_value::{ValueFail, file_table, unread};
 use func_table::{Formal, Func, Kind, func_named, func_word, kind_of};
 use std::alloc::{AllocError, Global};
 use std::sync::ledger::Ledger;
+use stmt_setting::Setting;
 use table_heap::{Heap, Look};
 
 /// An argument means what its value means.
@@ -43,7 +40,8 @@ fn is_meant(arg: &Arg)
 
 /// The argument that a formal takes, where `before` formals before it are free.
 pub fn argument(alloc: Global, args: &[Arg], before: usize, p: Formal) -> Result<&Expr, EvalFail>
-    ensures answer { AnswersAs (λ e. meaning e.now) (argument (map arg_meaning args.now) before p) result }
+    ensures answer { AnswersAs (λ e. meaning e.now)
+        (argument (map arg_meaning args.now) before p) result }
     ensures own { IfErr result IsOwn }
 {
     match place(args, before, p) {
@@ -59,12 +57,13 @@ pub fn argument(alloc: Global, args: &[Arg], before: usize, p: Formal) -> Result
 }
 
 /// What a name is bound to. A name that is bound to nothing is E02.
-fn bound<'a>(alloc: Global, name: &str, heap: &'a Heap) -> Result<Given<'a>, EvalFail>
-    ensures given { AnswersAs plain_given (bound_value name.now (finite.get (state_of heap.now).names name.now)) result }
-    ensures live { IfOk result (λ g. IsValueIn heap.now g.value) }
+fn bound<'a>(alloc: Global, name: &str, setting: &Setting<'a>) -> Result<Given<'a>, EvalFail>
+    ensures given { AnswersAs (plain_given setting.now.heap.now)
+        (bound_value name.now (finite.get (state_of setting.now.heap.now).names name.now)) result }
+    ensures live { IfOk result (IsGivenIn setting.now.heap.now) }
     ensures own { IfErr result IsOwn }
 {
-    match heap.look(name) {
+    match setting.heap.look(name) {
         Look::Absent => Err(stop(alloc, Code::E02, name)),
         Look::Table(id) => Ok(Given::quiet(Value::Named(id))),
         Look::Vector(column) => Ok(Given::quiet(Value::Kept(column))),
@@ -78,7 +77,8 @@ pub fn wanted_table<'v>(
     heap: &'v Heap,
 ) -> Result<&'v Table, EvalFail>
     requires { IsValueIn heap.now value.now }
-    ensures answer { AnswersAs (λ t. plain t.now) (wanted_table (state_of heap.now) (plain_value value.now)) result }
+    ensures answer { AnswersAs (λ t. plain t.now)
+        (wanted_table (state_of heap.now) (plain_value value.now)) result }
     ensures own { IfErr result IsOwn }
 {
     match value {
@@ -102,58 +102,53 @@ fn copied<L: Ledger>(
     table.copy(alloc, steps)
 }
 
-/// What an expression gives as a statement's value.
+/// What an expression gives as a statement's value: what `value` gives.
+pub fn whole<'a, F: Files, L: Ledger>(
+    alloc: Global,
+    e: &Expr,
+    setting: &Setting<'a>,
+    files: &mut F,
+    steps: &mut Steps<L>,
+) -> Result<Given<'a>, ValueFail>
+    ensures told { Told (F.held files.old) setting.now (meaning e.now).whole result }
+    ensures live { IfOk result (IsGivenIn setting.now.heap.now) }
+    ensures files { OnlyReads (files_seen F.held F.read_faults F.misses F.longs F.write_faults)
+        files.old files.new result }
+{
+    value(alloc, e, setting, files, steps)
+}
+
+/// What an expression gives, as a head and where a table is wanted.
 ///
 /// A name that is bound to nothing is E02. A table that has a name is given as it is, and a vector
 /// that has one is lent. A command is E19 with its name, and a table function has the faults of its
 /// arguments. A query gives its head's value through its brackets, one after another: what stands
-/// before a bracket is a table, else E20 with its name or `[`, and E04 for NULL; an argument that a
-/// bracket does not have is E19 with its name. Anything else is a vector, whose type comes before its
-/// value. dtq's own rule, docs/LANGUAGE.md, sections "Statements" and "Brackets".
+/// before a bracket is a table, else E20 with its name or `[`, and E04 for NULL. An assignment in a
+/// bracket alters a table that has a name, and is not shown. Anything else is a vector, whose type
+/// comes before its value. dtq's own rule, docs/LANGUAGE.md, sections "Statements" and "Brackets".
+#[cycle(value)]
 pub fn value<'a, F: Files, L: Ledger>(
     alloc: Global,
     e: &Expr,
-    heap: &'a Heap,
+    setting: &Setting<'a>,
     files: &mut F,
     steps: &mut Steps<L>,
 ) -> Result<Given<'a>, ValueFail>
-    ensures told { IsSome (F.held files.old) → Gives plain_given ((meaning e.now).gives (scene (F.held files.old) heap.now)) result }
-    ensures live { IfOk result (λ g. IsValueIn heap.now g.value) }
-    ensures held { F.held files.new ≡ F.held files.old }
-    ensures failed { IsErrOf result ValueFail.ReadFault → Rose (F.read_faults files.old) (F.read_faults files.new) }
-    ensures quiet { NoReadFailed result → F.read_faults files.new ≡ F.read_faults files.old }
-    ensures read_faults { F.read_faults files.old ≤ F.read_faults files.new }
-    ensures misses { F.misses files.old ≤ F.misses files.new }
-    ensures longs { F.longs files.old ≤ F.longs files.new }
-    ensures write_faults { F.write_faults files.new ≡ F.write_faults files.old }
-    ensures cause { IfErr result (Blames (F.held files.old) (Rose (F.misses files.old) (F.misses files.new)) (Rose (F.longs files.old) (F.longs files.new))) }
-{
-    expression(alloc, e, heap, files, steps)
-}
-
-/// What an expression gives. Of a call, a query and parentheses a part may read a file.
-#[cycle(value)]
-fn expression<'a, F: Files, L: Ledger>(
-    alloc: Global,
-    e: &Expr,
-    heap: &'a Heap,
-    files: &mut F,
-    steps: &mut Steps<L>,
-) -> Result<Given<'a>, ValueFail>
-    ensures told { IsSome (F.held files.old) → Gives plain_given ((meaning e.now).gives (scene (F.held files.old) heap.now)) result }
-    ensures live { IfOk result (λ g. IsValueIn heap.now g.value) }
-    ensures files { OnlyReads (files_seen F.held F.read_faults F.misses F.longs F.write_faults) files.old files.new result }
+    ensures told { Told (F.held files.old) setting.now (meaning e.now).gives result }
+    ensures live { IfOk result (IsGivenIn setting.now.heap.now) }
+    ensures files { OnlyReads (files_seen F.held F.read_faults F.misses F.longs F.write_faults)
+        files.old files.new result }
 {
     match e {
         Expr::Null => unread(Ok(Given::quiet(Value::Null))),
-        Expr::Name { name } => unread(bound(alloc, name.as_str(), heap)),
-        Expr::Paren { inner } => expression(alloc, inner.get(), heap, files, steps),
+        Expr::Name { name } => unread(bound(alloc, name.as_str(), setting)),
+        Expr::Paren { inner } => value(alloc, inner.get(), setting, files, steps),
         Expr::Call { name, args } => call(
             alloc,
             name.as_str(),
             args.as_slice(),
             e,
-            heap,
+            setting,
             files,
             steps,
         ),
@@ -161,15 +156,15 @@ fn expression<'a, F: Files, L: Ledger>(
             alloc,
             head.get(),
             brackets.as_slice(),
-            heap,
+            setting,
             files,
             steps,
         ),
         Expr::Lit { .. } | Expr::Infinite | Expr::Formula { .. } => {
-            unread(vector_value(alloc, e, heap, steps))
+            unread(vector_value(alloc, e, setting, steps))
         }
         Expr::Minus { .. } | Expr::Not { .. } | Expr::Chain { .. } => {
-            unread(vector_value(alloc, e, heap, steps))
+            unread(vector_value(alloc, e, setting, steps))
         }
     }
 }
@@ -181,17 +176,20 @@ fn call<'a, F: Files, L: Ledger>(
     name: &str,
     args: &[Arg],
     e: &Expr,
-    heap: &'a Heap,
+    setting: &Setting<'a>,
     files: &mut F,
     steps: &mut Steps<L>,
 ) -> Result<Given<'a>, ValueFail>
-    ensures told { IsSome (F.held files.old) → Gives plain_given (call_or (func_of name.now) (map arg_meaning args.now) (vector_gives (meaning e.now).check (meaning e.now).value) (scene (F.held files.old) heap.now)) result }
-    ensures live { IfOk result (λ g. IsValueIn heap.now g.value) }
-    ensures files { OnlyReads (files_seen F.held F.read_faults F.misses F.longs F.write_faults) files.old files.new result }
+    ensures told { Told (F.held files.old) setting.now
+        (call_or (func_of name.now) (map arg_meaning args.now)
+        (vector_gives (meaning e.now).check (meaning e.now).value)) result }
+    ensures live { IfOk result (IsGivenIn setting.now.heap.now) }
+    ensures files { OnlyReads (files_seen F.held F.read_faults F.misses F.longs F.write_faults)
+        files.old files.new result }
 {
     match func_named(name) {
-        None => unread(vector_value(alloc, e, heap, steps)),
-        Some(f) => known_call(alloc, f, args, e, heap, files, steps),
+        None => unread(vector_value(alloc, e, setting, steps)),
+        Some(f) => known_call(alloc, f, args, e, setting, files, steps),
     }
 }
 
@@ -202,18 +200,21 @@ fn known_call<'a, F: Files, L: Ledger>(
     f: Func,
     args: &[Arg],
     e: &Expr,
-    heap: &'a Heap,
+    setting: &Setting<'a>,
     files: &mut F,
     steps: &mut Steps<L>,
 ) -> Result<Given<'a>, ValueFail>
-    ensures told { IsSome (F.held files.old) → Gives plain_given (known_call (kind_of f) f (map arg_meaning args.now) (vector_gives (meaning e.now).check (meaning e.now).value) (scene (F.held files.old) heap.now)) result }
-    ensures live { IfOk result (λ g. IsValueIn heap.now g.value) }
-    ensures files { OnlyReads (files_seen F.held F.read_faults F.misses F.longs F.write_faults) files.old files.new result }
+    ensures told { Told (F.held files.old) setting.now
+        (known_call (kind_of f) f (map arg_meaning args.now)
+        (vector_gives (meaning e.now).check (meaning e.now).value)) result }
+    ensures live { IfOk result (IsGivenIn setting.now.heap.now) }
+    ensures files { OnlyReads (files_seen F.held F.read_faults F.misses F.longs F.write_faults)
+        files.old files.new result }
 {
     match kind_of(f) {
-        Kind::Vector | Kind::Description => unread(vector_value(alloc, e, heap, steps)),
+        Kind::Vector | Kind::Description => unread(vector_value(alloc, e, setting, steps)),
         Kind::Command => unread(Err(stop(alloc, Code::E19, func_word(f)))),
-        Kind::Table => bound_call(alloc, f, args, heap, files, steps),
+        Kind::Table => bound_call(alloc, f, args, setting, files, steps),
     }
 }
 
@@ -223,16 +224,18 @@ fn query<'a, F: Files, L: Ledger>(
     alloc: Global,
     head: &Expr,
     brackets: &[Bracket],
-    heap: &'a Heap,
+    setting: &Setting<'a>,
     files: &mut F,
     steps: &mut Steps<L>,
 ) -> Result<Given<'a>, ValueFail>
-    ensures told { IsSome (F.held files.old) → Gives plain_given (then_do ((meaning head.now).gives (scene (F.held files.old) heap.now)) (λ g. chained (state_of heap.now) (meaning head.now).called g (map bracket_meaning brackets.now))) result }
-    ensures live { IfOk result (λ g. IsValueIn heap.now g.value) }
-    ensures files { OnlyReads (files_seen F.held F.read_faults F.misses F.longs F.write_faults) files.old files.new result }
+    ensures told { Told (F.held files.old) setting.now
+        (query_gives (meaning head.now) (map bracket_meaning brackets.now)) result }
+    ensures live { IfOk result (IsGivenIn setting.now.heap.now) }
+    ensures files { OnlyReads (files_seen F.held F.read_faults F.misses F.longs F.write_faults)
+        files.old files.new result }
 {
-    match expression(alloc, head, heap, files, steps) {
-        Ok(given) => unread(chained(alloc, called(head), given, brackets, heap, steps)),
+    match value(alloc, head, setting, files, steps) {
+        Ok(given) => unread(chained(alloc, called(head), given, brackets, setting, steps)),
         Err(fail) => Err(fail),
     }
 }
@@ -243,16 +246,18 @@ fn bound_call<'a, F: Files, L: Ledger>(
     alloc: Global,
     f: Func,
     args: &[Arg],
-    heap: &'a Heap,
+    setting: &Setting<'a>,
     files: &mut F,
     steps: &mut Steps<L>,
 ) -> Result<Given<'a>, ValueFail>
-    ensures told { IsSome (F.held files.old) → Gives plain_given (then_do (bound f (names_in (map arg_meaning args.now))) (λ _. table_call f (map arg_meaning args.now) (scene (F.held files.old) heap.now))) result }
-    ensures live { IfOk result (λ g. IsValueIn heap.now g.value) }
-    ensures files { OnlyReads (files_seen F.held F.read_faults F.misses F.longs F.write_faults) files.old files.new result }
+    ensures told { Told (F.held files.old) setting.now
+        (bound_table f (map arg_meaning args.now)) result }
+    ensures live { IfOk result (IsGivenIn setting.now.heap.now) }
+    ensures files { OnlyReads (files_seen F.held F.read_faults F.misses F.longs F.write_faults)
+        files.old files.new result }
 {
     match bind(alloc, f, args) {
-        Ok(()) => table_call(alloc, f, args, heap, files, steps),
+        Ok(()) => table_call(alloc, f, args, setting, files, steps),
         Err(fail) => unread(Err(fail)),
     }
 }
@@ -263,44 +268,69 @@ fn table_call<'a, F: Files, L: Ledger>(
     alloc: Global,
     f: Func,
     args: &[Arg],
-    heap: &'a Heap,
+    setting: &Setting<'a>,
     files: &mut F,
     steps: &mut Steps<L>,
 ) -> Result<Given<'a>, ValueFail>
-    ensures told { IsSome (F.held files.old) → Gives plain_given (table_call f (map arg_meaning args.now) (scene (F.held files.old) heap.now)) result }
-    ensures live { IfOk result (λ g. IsValueIn heap.now g.value) }
-    ensures files { OnlyReads (files_seen F.held F.read_faults F.misses F.longs F.write_faults) files.old files.new result }
+    ensures told { Told (F.held files.old) setting.now
+        (table_call f (map arg_meaning args.now)) result }
+    ensures live { IfOk result (IsGivenIn setting.now.heap.now) }
+    ensures files { OnlyReads (files_seen F.held F.read_faults F.misses F.longs F.write_faults)
+        files.old files.new result }
 {
     match f {
-        Func::DataTable => unread(table_value(alloc, args, heap, steps)),
-        Func::Fread => file_value(alloc, args, heap, files, steps),
-        Func::Copy => copy_value(alloc, args, heap, files, steps),
+        Func::DataTable => unread(table_value(alloc, args, setting, steps)),
+        Func::Fread => fread_value(alloc, args, setting, files, steps),
+        Func::Copy => copy_value(alloc, args, setting, files, steps),
         _ => unread(Err(stop_unbuilt(alloc))),
     }
 }
 
 /// The name of the file that `fread` is given.
 fn file_argument(alloc: Global, args: &[Arg]) -> Result<&str, EvalFail>
-    ensures answer { AnswersAs (λ s. s.now) (then_do (argument (map arg_meaning args.now) 0 Formal.File) (λ a. named_file a.form)) result }
+    ensures answer { AnswersAs (λ s. s.now)
+        (then_do (argument (map arg_meaning args.now) 0 Formal.File)
+        (λ a. named_file a.form)) result }
     ensures own { IfErr result IsOwn }
 {
     named_file(alloc, argument(alloc, args, 0, Formal::File)?)
 }
 
-/// What `fread` gives: the table of the file that a text literal names.
-fn file_value<'a, F: Files, L: Ledger>(
+/// What a file of this name gives: its table.
+fn read_value<'a, F: Files, L: Ledger>(
     alloc: Global,
-    args: &[Arg],
-    heap: &'a Heap,
+    name: &str,
+    setting: &Setting<'_>,
     files: &mut F,
     steps: &mut Steps<L>,
 ) -> Result<Given<'a>, ValueFail>
-    ensures told { IsSome (F.held files.old) → Gives plain_given (table_call Func.Fread (map arg_meaning args.now) (scene (F.held files.old) heap.now)) result }
-    ensures live { IfOk result (λ g. IsValueIn heap.now g.value) }
-    ensures files { OnlyReads (files_seen F.held F.read_faults F.misses F.longs F.write_faults) files.old files.new result }
+    ensures told { Told (F.held files.old) setting.now (λ w. file_table w.files name.now) result }
+    ensures live { IfOk result (IsGivenIn setting.now.heap.now) }
+    ensures files { OnlyReads (files_seen F.held F.read_faults F.misses F.longs F.write_faults)
+        files.old files.new result }
+{
+    match file_table(alloc, files, name, steps) {
+        Ok((table, warns)) => Ok(Given::plain(Value::New(table), warns)),
+        Err(fail) => Err(fail),
+    }
+}
+
+/// What `fread` gives: the table of the file that a text literal names.
+fn fread_value<'a, F: Files, L: Ledger>(
+    alloc: Global,
+    args: &[Arg],
+    setting: &Setting<'_>,
+    files: &mut F,
+    steps: &mut Steps<L>,
+) -> Result<Given<'a>, ValueFail>
+    ensures told { Told (F.held files.old) setting.now
+        (table_call Func.Fread (map arg_meaning args.now)) result }
+    ensures live { IfOk result (IsGivenIn setting.now.heap.now) }
+    ensures files { OnlyReads (files_seen F.held F.read_faults F.misses F.longs F.write_faults)
+        files.old files.new result }
 {
     match file_argument(alloc, args) {
-        Ok(name) => file_table(alloc, files, name, steps),
+        Ok(name) => read_value(alloc, name, setting, files, steps),
         Err(fail) => unread(Err(fail)),
     }
 }
@@ -310,19 +340,21 @@ fn file_value<'a, F: Files, L: Ledger>(
 fn copy_value<'a, F: Files, L: Ledger>(
     alloc: Global,
     args: &[Arg],
-    heap: &'a Heap,
+    setting: &Setting<'a>,
     files: &mut F,
     steps: &mut Steps<L>,
 ) -> Result<Given<'a>, ValueFail>
-    ensures told { IsSome (F.held files.old) → Gives plain_given (table_call Func.Copy (map arg_meaning args.now) (scene (F.held files.old) heap.now)) result }
-    ensures live { IfOk result (λ g. IsValueIn heap.now g.value) }
-    ensures files { OnlyReads (files_seen F.held F.read_faults F.misses F.longs F.write_faults) files.old files.new result }
+    ensures told { Told (F.held files.old) setting.now
+        (table_call Func.Copy (map arg_meaning args.now)) result }
+    ensures live { IfOk result (IsGivenIn setting.now.heap.now) }
+    ensures files { OnlyReads (files_seen F.held F.read_faults F.misses F.longs F.write_faults)
+        files.old files.new result }
 {
     match place(args, 0, Formal::Table) {
         Some(i) => match args.get(i) {
             Some(arg) => {
                 is_meant(arg);
-                copy_of(alloc, &arg.value, heap, files, steps)
+                copy_of(alloc, &arg.value, setting, files, steps)
             }
             None => unread(Err(stop_unbuilt(alloc))),
         },
@@ -334,19 +366,22 @@ fn copy_value<'a, F: Files, L: Ledger>(
 fn copied_value<'a, L: Ledger>(
     alloc: Global,
     given: &Given<'_>,
-    heap: &Heap,
+    setting: &Setting<'_>,
     steps: &mut Steps<L>,
 ) -> Result<Given<'a>, EvalFail>
-    requires { IsValueIn heap.now given.now.value }
-    ensures answer { AnswersAs plain_given (then_do (wanted_table (state_of heap.now) (plain_value given.now.value)) (λ t. Ok (record { value = model.New (copied t); warns = given.now.warns }))) result }
-    ensures live { IfOk result (λ g. IsValueIn heap.now g.value) }
+    requires { IsValueIn setting.now.heap.now given.now.value }
+    ensures answer { AnswersAs (plain_given setting.now.heap.now)
+        (copied_value (state_of setting.now.heap.now) (plain_given setting.now.heap.now given.now))
+        result }
+    ensures live { IfOk result (IsGivenIn setting.now.heap.now) }
     ensures own { IfErr result IsOwn }
 {
-    let table = copied(alloc, wanted_table(alloc, &given.value, heap)?, steps)?;
-    Ok(Given {
-        value: Value::New(table),
-        warns: given.warns,
-    })
+    let table = copied(
+        alloc,
+        wanted_table(alloc, &given.value, setting.heap)?,
+        steps,
+    )?;
+    Ok(Given::plain(Value::New(table), given.warns))
 }
 
 /// What `copy` of an expression gives.
@@ -354,16 +389,17 @@ fn copied_value<'a, L: Ledger>(
 fn copy_of<'a, F: Files, L: Ledger>(
     alloc: Global,
     e: &Expr,
-    heap: &'a Heap,
+    setting: &Setting<'a>,
     files: &mut F,
     steps: &mut Steps<L>,
 ) -> Result<Given<'a>, ValueFail>
-    ensures told { IsSome (F.held files.old) → Gives plain_given (copy_of (meaning e.now) (scene (F.held files.old) heap.now)) result }
-    ensures live { IfOk result (λ g. IsValueIn heap.now g.value) }
-    ensures files { OnlyReads (files_seen F.held F.read_faults F.misses F.longs F.write_faults) files.old files.new result }
+    ensures told { Told (F.held files.old) setting.now (copy_of (meaning e.now)) result }
+    ensures live { IfOk result (IsGivenIn setting.now.heap.now) }
+    ensures files { OnlyReads (files_seen F.held F.read_faults F.misses F.longs F.write_faults)
+        files.old files.new result }
 {
-    match expression(alloc, e, heap, files, steps) {
-        Ok(given) => unread(copied_value(alloc, &given, heap, steps)),
+    match value(alloc, e, setting, files, steps) {
+        Ok(given) => unread(copied_value(alloc, &given, setting, steps)),
         Err(fail) => Err(fail),
     }
 }

@@ -4,3 +4,4 @@ pub mod Heaps
 pub mod Plain
 pub mod Slots
 pub mod PlainTables
+mod Changed

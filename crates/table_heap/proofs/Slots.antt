@@ -1,9 +1,12 @@
 -- The places of the tables: where a number is found, and what a change of one place does.
-use Rattle.std.proofs.Common.{◌≡◌, ◌≢◌, ◌⊎◌, ◌+◌, ◌<◌, ℕ, zero, suc, Bool, true, false, cond, [], ◌∷◌, length, Option, Some, None, is_some, count_by, refl, sym, ap, ◌∙◌, true≢false, inl, inr, arith, slice_set}
+use Rattle.std.proofs.Common.{◌≡◌, ◌≢◌, ◌⊎◌, ◌+◌, ◌<◌, ℕ, zero, suc, Bool, true, false, cond, [], ◌∷◌, length, Option}
+use Rattle.std.proofs.Common.{Some, None, is_some, count_by, refl, sym, ap, ◌∙◌, true≢false, inl, inr, arith}
+use Rattle.std.proofs.Common.{slice_set}
 use Rattle.std.specs.Option.{option_map}
 use Rattle.std.specs.Ordering.{nat_cmp, eq_by_cmp}
 use Rattle.std.specs.Cmp.{unsigned_ties}
-use Rattle.std.specs.FinMap.{find, get, insert, remove, len, len-empty, len-insert, get-from_entries, get-insert, get-remove, same_map, nat_cmp-IsAntisymmetric}
+use Rattle.std.specs.FinMap.{find, get, insert, remove, len, len-empty, len-insert, get-from_entries, get-insert}
+use Rattle.std.specs.FinMap.{get-remove, same_map, nat_cmp-IsAntisymmetric}
 use Rattle.std.proofs.lemmas.Cmp.{nat_cmp_total, eq_by_cmp_equiv}
 use Rattle.std.proofs.lemmas.Bool.{cases_eq, eqb-true}
 use Rattle.std.proofs.lemmas.List.{get_or-set_same, get_or-set_other}
@@ -64,15 +67,18 @@ place_within slots k n h = let p = place_of n (slot_at slots k) h in some_within
 apart_rest : (o : Option Numbered) (rest : Slots) → IsApart (o ∷ rest) → IsApart rest
 apart_rest o rest a i j x y p q e = let more : suc i ≡ suc j = a (suc i) (suc j) x y p q e in omega arith
 
-find-there : (slots : Slots) (i : ℕ) (x : Numbered) → IsApart slots → slot_at slots i ≡ Some x → find nat_cmp x.number (numbered_tables slots) ≡ Some (plain x.table)
+find-there : (slots : Slots) (i : ℕ) (x : Numbered) → IsApart slots → slot_at slots i ≡ Some x
+    → find nat_cmp x.number (numbered_tables slots) ≡ Some (plain x.table)
 find-there [] i x a h = absurd (none_some h)
 find-there (None ∷ rest) zero x a h = absurd (none_some h)
 find-there (None ∷ rest) (suc i) x a h = find-there rest i x (apart_rest None rest a) h
 find-there (Some y ∷ rest) zero x a h =
     let same : y ≡ x = same_some h in
-    hit (eq_by_cmp nat_cmp x.number y.number) _ _ (ties x.number y.number (ap (λ z. z.number) (sym same))) ∙ ap (λ z. Some (plain z.table)) same
+    hit (eq_by_cmp nat_cmp x.number y.number) _ _ (ties x.number y.number (ap (λ z. z.number) (sym same)))
+    ∙ ap (λ z. Some (plain z.table)) same
 find-there (Some y ∷ rest) (suc i) x a h =
-    passed (eq_by_cmp nat_cmp x.number y.number) _ _ (λ t. let first : zero ≡ suc i = a zero (suc i) y x refl h (sym (same_number x.number y.number t)) in omega arith)
+    passed (eq_by_cmp nat_cmp x.number y.number) _ _ (λ t. let first : zero
+    ≡ suc i = a zero (suc i) y x refl h (sym (same_number x.number y.number t)) in omega arith)
     ∙ find-there rest i x (apart_rest (Some y) rest a) h
 
 -- no place has the number
@@ -87,7 +93,8 @@ find-unused (Some y ∷ rest) k n =
     ∙ find-unused rest k (λ i x. n (suc i) x)
 
 -- a table that stands at a place is found under its number
-pub get-there : (slots : Slots) (i : ℕ) (x : Numbered) → IsApart slots → slot_at slots i ≡ Some x → get (tables_of slots) x.number ≡ Some (plain x.table)
+pub get-there : (slots : Slots) (i : ℕ) (x : Numbered) → IsApart slots → slot_at slots i ≡ Some x
+    → get (tables_of slots) x.number ≡ Some (plain x.table)
 get-there slots i x a h = get-from_entries nat_cmp_total _ _ ∙ find-there slots i x a h
 
 -- a number that no place has is not found
@@ -97,7 +104,8 @@ get-unused slots k n = get-from_entries nat_cmp_total _ _ ∙ find-unused slots 
 abbrev Used : Slots → ℕ → Type 0
 Used slots k = (i : ℕ) × (x : Numbered) × (slot_at slots i ≡ Some x) × (x.number ≡ k)
 
-unused_more : (o : Option Numbered) (rest : Slots) (k : ℕ) → ((x : Numbered) → o ≡ Some x → x.number ≡ k → ⊥) → IsUnused rest k → IsUnused (o ∷ rest) k
+unused_more : (o : Option Numbered) (rest : Slots) (k : ℕ) → ((x : Numbered) → o ≡ Some x → x.number ≡ k → ⊥)
+    → IsUnused rest k → IsUnused (o ∷ rest) k
 unused_more o rest k here more zero x h e = here x h e
 unused_more o rest k here more (suc i) x h e = more i x h e
 
@@ -131,7 +139,8 @@ count_tables (None ∷ rest) a =
 count_tables (Some y ∷ rest) a =
     let more = count_tables rest (apart_rest (Some y) rest a) in
     let one = sum_by-cons (λ o. cond (is_some o) 1 0) (Some y) rest in
-    let new : get (tables_of rest) y.number ≡ None = get-unused rest y.number (λ i x h e. let first : zero ≡ suc i = a zero (suc i) y x refl h (sym e) in omega arith) in
+    let new : get (tables_of rest) y.number ≡ None = get-unused rest y.number
+    (λ i x h e. let first : zero ≡ suc i = a zero (suc i) y x refl h (sym e) in omega arith) in
     let count = len-cons (tables_of rest) y.number (plain y.table) new in
     omega arith
 
@@ -201,7 +210,8 @@ module _ (old new : Slots) (key n : ℕ) (v : Option Numbered) (s : SetsTable ol
 
   get-set : (q : ℕ) → get (tables_of new) q ≡ cond (eq_by_cmp nat_cmp q n) (shown_table v) (get (tables_of old) q)
   get-set q =
-      (elim (eq_by_cmp nat_cmp q n) as (λ c. eq_by_cmp nat_cmp q n ≡ c → get (tables_of new) q ≡ cond c (shown_table v) (get (tables_of old) q)) [
+      (elim (eq_by_cmp nat_cmp q n) as (λ c. eq_by_cmp nat_cmp q n ≡ c → get (tables_of new) q
+      ≡ cond c (shown_table v) (get (tables_of old) q)) [
         | true ↦ λ t. ap (get (tables_of new)) (same_number q n t) ∙ get-at
         | false ↦ λ t. get-off q (λ e. true≢false (sym (ties q n e) ∙ t))
       ]) refl
@@ -211,17 +221,21 @@ same_tables m n h = same_map nat_cmp_total nat_cmp-IsAntisymmetric m n h
 
 module _ (old new : Slots) (key n : ℕ) where
   -- the place has table n now: the tables have it at n
-  pub tables-put : (x : Numbered) → SetsTable old new key n (Some x) → tables_of new ≡ insert (tables_of old) n (plain x.table)
-  tables-put x s = same_tables _ _ (λ q. get-set old new key n (Some x) s q ∙ sym (get-insert nat_cmp_total (tables_of old) n (plain x.table) q))
+  pub tables-put : (x : Numbered) → SetsTable old new key n (Some x) → tables_of new
+      ≡ insert (tables_of old) n (plain x.table)
+  tables-put x s = same_tables _ _ (λ q. get-set old new key n (Some x) s q
+      ∙ sym (get-insert nat_cmp_total (tables_of old) n (plain x.table) q))
 
   -- the place is empty now: the tables have none at n
   pub tables-taken : SetsTable old new key n None → tables_of new ≡ remove (tables_of old) n
-  tables-taken s = same_tables _ _ (λ q. get-set old new key n None s q ∙ sym (get-remove nat_cmp_total (tables_of old) n q))
+  tables-taken s = same_tables _ _ (λ q. get-set old new key n None s q
+      ∙ sym (get-remove nat_cmp_total (tables_of old) n q))
 
 -- ---- the three changes
 
 -- a table under a number that no place has, at a place that was empty
-pub sets-new : (old new : Slots) (key n : ℕ) (x : Numbered) → IsApart old → IsUnused old n → slot_at old key ≡ None → x.number ≡ n → SetsSlot old new key (Some x) → SetsTable old new key n (Some x)
+pub sets-new : (old new : Slots) (key n : ℕ) (x : Numbered) → IsApart old → IsUnused old n → slot_at old key ≡ None
+    → x.number ≡ n → SetsSlot old new key (Some x) → SetsTable old new key n (Some x)
 sets-new old new key n x a u empty e s = record {
   apart = a;
   sets = s;
@@ -231,14 +245,16 @@ sets-new old new key n x a u empty e s = record {
 }
 
 -- a written place is the only one that changes
-pub sets_slot : (slots : Slots) (key : ℕ) (v : Option Numbered) → key < length slots → SetsSlot slots (slice_set slots key v) key v
+pub sets_slot : (slots : Slots) (key : ℕ) (v : Option Numbered) → key < length slots
+    → SetsSlot slots (slice_set slots key v) key v
 sets_slot slots key v lt = record {
   changed = get_or-set_same slots key v None lt;
   others = λ j d. get_or-set_other slots key j v None d;
 }
 
 -- another table in the place of table n, or none
-pub sets-over : (slots : Slots) (key n : ℕ) (v : Option Numbered) → IsApart slots → HasNumber n (slot_at slots key) → ((x : Numbered) → v ≡ Some x → x.number ≡ n) → SetsTable slots (slice_set slots key v) key n v
+pub sets-over : (slots : Slots) (key n : ℕ) (v : Option Numbered) → IsApart slots → HasNumber n (slot_at slots key)
+    → ((x : Numbered) → v ≡ Some x → x.number ≡ n) → SetsTable slots (slice_set slots key v) key n v
 sets-over slots key n v a h now =
     let p = place_of n (slot_at slots key) h in
     record {

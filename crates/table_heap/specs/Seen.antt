@@ -47,7 +47,8 @@ pub record HeapSeen : Type 0 where
 abbrev pub heap_code : Coded HeapSeen
 heap_code =
     code_by (Bounds × (Slots × (ℕ × ℕ)))
-    (coded× (finite.code (coded_list coded_ℕ) bound.the_row.coded) (coded× (coded_list (coded_option numbered.the_row.coded)) (coded× coded_ℕ coded_ℕ)))
+    (coded× (finite.code (coded_list coded_ℕ) bound.the_row.coded)
+    (coded× (coded_list (coded_option numbered.the_row.coded)) (coded× coded_ℕ coded_ℕ)))
     (λ h. (h.held.bounds, (h.held.slots, (h.held.next, h.room))))
     (λ p. record { held = record { bounds = p.0; slots = p.1.0; next = p.1.1.0 }; room = p.1.1.1 })
     (λ _. refl)

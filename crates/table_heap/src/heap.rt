@@ -56,7 +56,11 @@ impl Model for Heap {
       room = room_of (spare h.names) (h.tables.capacity - slab_len h.tables) h.next;
     } };
 
-    ghost invariant = { λ h. IsHeap (record { bounds = bounds_of h.names.entries; slots = h.tables.slots; next = h.next }) };
+    ghost invariant = { λ h. IsHeap (record {
+      bounds = bounds_of h.names.entries;
+      slots = h.tables.slots;
+      next = h.next;
+    }) };
 }
 
 impl Heap {
@@ -117,7 +121,8 @@ impl Heap {
         requires { IsAt self.old id }
         ensures* writes_back { sem 𝓛 (LendsTable self.entry id result) }
         ensures place { IsTableAt self.old id result.now }
-        ensures plain { (t : TableSeen) → state_of (with_table_at self.old id t) ≡ model.with_table (state_of self.old) id.number (plain t) }
+        ensures plain { (t : TableSeen) → state_of (with_table_at self.old id t)
+            ≡ model.with_table (state_of self.old) id.number (plain t) }
     {
         match self.tables.get_mut(id.slot) {
             Some(place) => &mut place.table,
@@ -157,7 +162,8 @@ impl Heap {
     /// Binds the name to a vector.
     pub fn bind_vector(&mut self, name: Text, column: Column)
         requires { 1 ≤ self.old.room }
-        ensures state { state_of self.new ≡ model.bound_to (state_of self.old) name (model.Vector column.vector) }
+        ensures state { state_of self.new
+            ≡ model.bound_to (state_of self.old) name (model.Vector column.vector) }
         ensures room { self.old.room ≤ self.new.room + 1 }
     {
         let vector = Bound::Vector(column);
@@ -168,7 +174,8 @@ impl Heap {
     pub fn bind_table(&mut self, name: Text, id: Id)
         requires room { 1 ≤ self.old.room }
         requires live { IsAt self.old id }
-        ensures state { state_of self.new ≡ model.bound_to (state_of self.old) name (model.Table id.number) }
+        ensures state { state_of self.new
+            ≡ model.bound_to (state_of self.old) name (model.Table id.number) }
         ensures live { IsAt self.new id }
         ensures room { self.old.room ≤ self.new.room + 1 }
     {
@@ -179,7 +186,8 @@ impl Heap {
     /// Gives the table of the name `from` the name `to` as well.
     pub fn alias(&mut self, to: Text, from: &str) -> Result<(), AliasFail>
         requires { 1 ≤ self.old.room }
-        ensures state { state_of self.new ≡ aliased (state_of self.old) to (finite.get (state_of self.old).names from.now) }
+        ensures state { state_of self.new
+            ≡ aliased (state_of self.old) to (finite.get (state_of self.old).names from.now) }
         ensures answer { result ≡ alias_answer (finite.get (state_of self.old).names from.now) }
         ensures room { self.old.room ≤ self.new.room + 1 }
     {
@@ -213,8 +221,10 @@ impl Heap {
 /// Binds the name, and drops the table that loses its last name by that.
 fn rebind(names: &mut Names, tables: &mut Tables, name: Text, to: Bound)
     requires { 0 < spare names.old }
-    ensures names { bounds_of names.new.entries ≡ finite.insert (bounds_of names.old.entries) name to }
-    ensures slots { tables.new.slots ≡ swept_slots (bounds_of names.new.entries) tables.old.slots (finite.get (bounds_of names.old.entries) name) }
+    ensures names { bounds_of names.new.entries
+        ≡ finite.insert (bounds_of names.old.entries) name to }
+    ensures slots { tables.new.slots ≡ swept_slots (bounds_of names.new.entries)
+        tables.old.slots (finite.get (bounds_of names.old.entries) name) }
     ensures spare { spare names.old ≤ spare names.new + 1 }
     ensures len { slab_len tables.new ≤ slab_len tables.old }
     ensures capacity { tables.new.capacity ≡ tables.old.capacity }

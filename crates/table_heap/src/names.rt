@@ -48,7 +48,8 @@ pub(crate) fn look_up<'a>(names: &'a Names, name: &str) -> Option<&'a Bound>
 /// Binds the name, and gives what it was bound to.
 pub(crate) fn put_name(names: &mut Names, name: Text, to: Bound) -> Option<Bound>
     requires { 0 < spare names.old }
-    ensures names { bounds_of names.new.entries ≡ finite.insert (bounds_of names.old.entries) name to }
+    ensures names { bounds_of names.new.entries
+        ≡ finite.insert (bounds_of names.old.entries) name to }
     ensures old { result ≡ finite.get (bounds_of names.old.entries) name }
     ensures spare { spare names.old ≤ spare names.new + 1 }
 {
@@ -60,7 +61,8 @@ pub(crate) fn put_name(names: &mut Names, name: Text, to: Bound) -> Option<Bound
 
 /// Unbinds the name, and gives what it was bound to.
 pub(crate) fn take_name(names: &mut Names, name: &str) -> Option<Bound>
-    ensures names { bounds_of names.new.entries ≡ finite.remove (bounds_of names.old.entries) name.now }
+    ensures names { bounds_of names.new.entries
+        ≡ finite.remove (bounds_of names.old.entries) name.now }
     ensures old { result ≡ finite.get (bounds_of names.old.entries) name.now }
     ensures spare { spare names.old ≤ spare names.new }
 {

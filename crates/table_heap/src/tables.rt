@@ -20,7 +20,8 @@ pub(crate) fn put_table(tables: &mut Tables, number: u64, table: Table) -> Id
     requires { HasRoomFor tables.old 1 }
     ensures number { result.number ≡ number }
     ensures empty { slot_at tables.old.slots result.slot ≡ None }
-    ensures slots { SetsSlot tables.old.slots tables.new.slots result.slot (Some (record { number = number; table = table })) }
+    ensures slots { SetsSlot tables.old.slots tables.new.slots result.slot
+        (Some (record { number = number; table = table })) }
     ensures len { slab_len tables.new ≡ slab_len tables.old + 1 }
     ensures capacity { tables.new.capacity ≡ tables.old.capacity }
 {
@@ -39,7 +40,8 @@ pub(crate) fn take_table(tables: &mut Tables, slot: usize)
 
 /// Drops the table that a name was bound to, where that was its last name.
 pub(crate) fn sweep(names: &Names, tables: &mut Tables, old: Option<Bound>)
-    ensures slots { tables.new.slots ≡ swept_slots (bounds_of names.now.entries) tables.old.slots old }
+    ensures slots { tables.new.slots
+        ≡ swept_slots (bounds_of names.now.entries) tables.old.slots old }
     ensures len { slab_len tables.new ≤ slab_len tables.old }
     ensures capacity { tables.new.capacity ≡ tables.old.capacity }
 {

@@ -31,7 +31,8 @@ less_one_way o (Some a) None h = refl
 less_one_way {K} o (Some a) (Some b) h = let key : K → K = λ x. x in (ranks_by o key).one_way a b h
 
 less_chain : {K : Type 0} {R : K → K → Ordering} (o : IsTotalOrder R) (a b c : Option K) →
-    is_some b ≡ true → is_less (order_of R a b) ≡ false → is_less (order_of R b c) ≡ false → is_less (order_of R a c) ≡ false
+    is_some b ≡ true → is_less (order_of R a b) ≡ false → is_less (order_of R b c) ≡ false
+    → is_less (order_of R a c) ≡ false
 less_chain o None b c s h k = refl
 less_chain o (Some a) b None s h k = refl
 less_chain o (Some a) None (Some c) s h k = cc

@@ -1,5 +1,6 @@
 -- The best of the first cells of a list, one cell after another, and of all of them.
-use Rattle.std.proofs.Common.{◌≡◌, ◌∙◌, ◌+◌, ◌<◌, ℕ, Bool, true, false, not, ◌&&◌, List, length, map, All, Option, None, Some, refl, ap, sym, subst, below_more, arith, if◌then◌else◌}
+use Rattle.std.proofs.Common.{◌≡◌, ◌∙◌, ◌+◌, ◌<◌, ℕ, Bool, true, false, not, ◌&&◌, List, length, map, All, Option, None}
+use Rattle.std.proofs.Common.{Some, refl, ap, sym, subst, below_more, arith, if◌then◌else◌}
 use Rattle.std.specs.List.{list_any, position_or_len, slice_get}
 use Rattle.std.proofs.lemmas.List.{get_or_default}
 use Rattle.std.proofs.lemmas.List.Elements.{All-map}
@@ -70,7 +71,8 @@ module _ (ranked : Cell → Bool) (beats : Cell → Cell → Bool) (o : Picks ra
       }
 
   -- the cell at i beats the best so far
-  better : (i b : ℕ) → i < length cells → Unbeaten beats cells i b → beats (at i) (at b) ≡ true → Unbeaten beats cells (i + 1) i
+  better : (i b : ℕ) → i < length cells → Unbeaten beats cells i b → beats (at i) (at b) ≡ true
+      → Unbeaten beats cells (i + 1) i
   better i b lt u h =
       let P : ℕ → Type 0 = λ k. beats (at k) (at i) ≡ false in
       let in_list : b < length cells = omega (arith, u.within) in
@@ -78,7 +80,8 @@ module _ (ranked : Cell → Bool) (beats : Cell → Cell → Bool) (o : Picks ra
         within = omega arith;
         known = known_where_beats i (at b) lt h;
         unbeaten = below_more P i
-            (λ k d. o.chain (at k) (at b) (at i) (has_rank_at b in_list u.known) (u.unbeaten k d) (o.one_way (at i) (at b) h))
+            (λ k d. o.chain (at k) (at b) (at i) (has_rank_at b in_list u.known) (u.unbeaten k d)
+            (o.one_way (at i) (at b) h))
             (beats_not_itself (at i));
         first = λ k d e. not_false (beats (at i) (at k))
             (λ f. let no : beats (at i) (at b) ≡ false =
@@ -144,7 +147,8 @@ module _ (ranked : Cell → Bool) (beats : Cell → Cell → Bool) (o : Picks ra
       (λ k d. beaten_before b k (is_na (at k)) u.within u d refl)
       (λ lt. unbeaten_here b u)
 
-  no_place : ((k : ℕ) → k < length cells → is_na (at k) ≡ true) → position_or_len (is_unbeaten beats cells) cells ≡ length cells
+  no_place : ((k : ℕ) → k < length cells → is_na (at k) ≡ true)
+      → position_or_len (is_unbeaten beats cells) cells ≡ length cells
   no_place none =
       position_or_len_is (is_unbeaten beats cells) cells (length cells) is.Na (omega arith)
       (λ k d. na_is_beaten (at k) (none k d))
@@ -156,9 +160,11 @@ module _ (ranked : Cell → Bool) (beats : Cell → Cell → Bool) (o : Picks ra
       find_at (is_unbeaten beats cells) cells ∙ ap (slice_get cells) (no_place none)
       ∙ slice_get_past cells (length cells) (omega arith)
   found (Some b) u =
-      find_at (is_unbeaten beats cells) cells ∙ ap (slice_get cells) (place_is b u) ∙ slice_get-get_or cells b is.Na u.within
+      find_at (is_unbeaten beats cells) cells ∙ ap (slice_get cells) (place_is b u)
+      ∙ slice_get-get_or cells b is.Na u.within
 
 -- each word has a rank unless it is NA
 pub typed_words : {X : Type 0} (ranked : Cell → Bool) (cell : X → Cell) →
-    ((x : X) → ranked (cell x) ≡ not (is_na (cell x))) → (xs : List X) → All (λ c. ranked c ≡ not (is_na c)) (map cell xs)
+    ((x : X) → ranked (cell x) ≡ not (is_na (cell x))) → (xs : List X)
+    → All (λ c. ranked c ≡ not (is_na c)) (map cell xs)
 typed_words ranked cell h xs = All-map (λ c. ranked c ≡ not (is_na c)) cell xs (λ k d lt. h _)

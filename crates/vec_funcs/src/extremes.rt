@@ -1,6 +1,7 @@
 ghost use Rattle.std.specs.Prelude.{◌≡◌, ◌+◌, ◌<◌, map, length, IfErr};
 ghost use Rattle.dt_model.specs.Vector.{IsWithin};
-ghost use Rattle.vector_model.specs.Functions.{extreme_type, winner, found_value, extreme_cells, min_value, max_value};
+ghost use Rattle.vector_model.specs.Functions.{extreme_type, winner, found_value, extreme_cells};
+ghost use Rattle.vector_model.specs.Functions.{min_value, max_value};
 ghost use Rattle.eval_fail.specs.Answers.{AnswersAs, IsOwn};
 ghost use Rattle.na_words.specs.Shown.{shown};
 ghost use Rattle.valued.specs.Valued.{valued_of};
@@ -51,7 +52,8 @@ fn after<A: Ranked>(side: Side, words: &[A], p: usize, best: Option<usize>) -> O
     requires place { p < length words.now }
     requires best { IsWithin (length words.now) best }
     ensures within { IsWithin (length words.now) result }
-    ensures after { result ≡ after (beats side (extreme_type A.kind)) (map A.cell words.now) p best }
+    ensures after { result ≡ after (beats side (extreme_type A.kind))
+        (map A.cell words.now) p best }
 {
     if takes(side, words, p, best) {
         Some(p)
@@ -80,7 +82,8 @@ fn word_given<A: Ranked, W: Target + Drop>(
     p: usize,
 ) -> Result<Valued, EvalFail>
     requires { p < length words.now }
-    ensures answer { AnswersAs valued_of (found_value W.kind (standing (map A.cell words.now) (Some p))) result }
+    ensures answer { AnswersAs valued_of
+        (found_value W.kind (standing (map A.cell words.now) (Some p))) result }
     ensures own { IfErr result IsOwn }
 {
     match W::of::<A>(alloc, &words[p]) {
@@ -104,7 +107,8 @@ fn found_given<A: Ranked, W: Target + Drop>(
     found: Option<usize>,
 ) -> Result<Valued, EvalFail>
     requires { IsWithin (length words.now) found }
-    ensures answer { AnswersAs valued_of (found_value W.kind (standing (map A.cell words.now) found)) result }
+    ensures answer { AnswersAs valued_of
+        (found_value W.kind (standing (map A.cell words.now) found)) result }
     ensures own { IfErr result IsOwn }
 {
     match found {
@@ -144,13 +148,14 @@ fn extreme_of(alloc: Global, side: Side, words: Words<'_>, na_rm: bool) -> Resul
     }
 }
 
-/// The least cell: FALSE before TRUE, integers by value, texts by bytes. Logicals count as integers;
-/// else the answer has the column's type. NA gives NA, or is left out under `na_rm`; of nothing the
-/// answer is NA, with the warning W03. No type is refused.
+/// The least cell: FALSE before TRUE, integers by value, texts by bytes. Logicals count as
+/// integers; else the answer has the column's type. NA gives NA, or is left out under `na_rm`; of
+/// nothing the answer is NA, with the warning W03. No type is refused.
 ///
 /// It touches each cell of the column once.
 ///
-/// From `min` of R, which gives an infinite number of nothing; docs/LANGUAGE.md, section "Functions".
+/// From `min` of R, which gives an infinite number of nothing; docs/LANGUAGE.md, section
+/// "Functions".
 pub fn min<L: Ledger>(
     alloc: Global,
     x: &Column,
@@ -169,7 +174,8 @@ pub fn min<L: Ledger>(
 ///
 /// It touches each cell of the column once.
 ///
-/// From `max` of R, which gives an infinite number of nothing; docs/LANGUAGE.md, section "Functions".
+/// From `max` of R, which gives an infinite number of nothing; docs/LANGUAGE.md, section
+/// "Functions".
 pub fn max<L: Ledger>(
     alloc: Global,
     x: &Column,

@@ -47,11 +47,13 @@ fn words_as<W: Target + Drop, L: Ledger>(
     values: &[Valued],
     steps: &mut Steps<L>,
 ) -> Result<Vec<W>, AllocError>
-    ensures cells { IfOk result (λ v. map W.cell v.items ≡ cells_as W.kind (map vector_in values.now)) }
+    ensures cells { IfOk result
+        (λ v. map W.cell v.items ≡ cells_as W.kind (map vector_in values.now)) }
     ensures fine { IfOk result (λ v. All W.fine v.items) }
     ensures count { IfOk result (λ v. length v.items ≡ total_length (map vector_in values.now)) }
     ensures touches { steps.new ≤ steps.old + total_length (map vector_in values.now) }
-    ensures once { IfOk result (λ v. steps.new ≡ steps.old + total_length (map vector_in values.now)) }
+    ensures once { IfOk result
+        (λ v. steps.new ≡ steps.old + total_length (map vector_in values.now)) }
 {
     let mut out = Vec::new(alloc);
     for v in values {
@@ -67,9 +69,11 @@ fn column_as<W: Target + Drop, L: Ledger>(
     steps: &mut Steps<L>,
 ) -> Result<Column, AllocError>
     requires { total_length (map vector_in values.now) ≤ MAX_ROWS }
-    ensures vector { IfOk result (λ c. c.vector ≡ vector_from W.kind (cells_as W.kind (map vector_in values.now))) }
+    ensures vector { IfOk result
+        (λ c. c.vector ≡ vector_from W.kind (cells_as W.kind (map vector_in values.now))) }
     ensures touches { steps.new ≤ steps.old + total_length (map vector_in values.now) }
-    ensures once { IfOk result (λ c. steps.new ≡ steps.old + total_length (map vector_in values.now)) }
+    ensures once { IfOk result
+        (λ c. steps.new ≡ steps.old + total_length (map vector_in values.now)) }
 {
     W::column(words_as::<W, L>(alloc, values, steps)?)
 }
@@ -81,9 +85,11 @@ fn column_of_kind<L: Ledger>(
     steps: &mut Steps<L>,
 ) -> Result<Column, AllocError>
     requires { total_length (map vector_in values.now) ≤ MAX_ROWS }
-    ensures vector { IfOk result (λ c. c.vector ≡ vector_from kind (cells_as kind (map vector_in values.now))) }
+    ensures vector { IfOk result
+        (λ c. c.vector ≡ vector_from kind (cells_as kind (map vector_in values.now))) }
     ensures touches { steps.new ≤ steps.old + total_length (map vector_in values.now) }
-    ensures once { IfOk result (λ c. steps.new ≡ steps.old + total_length (map vector_in values.now)) }
+    ensures once { IfOk result
+        (λ c. steps.new ≡ steps.old + total_length (map vector_in values.now)) }
 {
     match kind {
         ColType::Lgl => column_as::<u8, L>(alloc, values, steps),
@@ -92,8 +98,8 @@ fn column_of_kind<L: Ledger>(
     }
 }
 
-/// All cells of these in order, in the one type that is common to all, at once: TRUE beside an integer
-/// and a text is "TRUE". More than 16,777,216 cells are E07. It touches each cell once.
+/// All cells of these in order, in the one type that is common to all, at once: TRUE beside an
+/// integer and a text is "TRUE". More than 16,777,216 cells are E07. It touches each cell once.
 ///
 /// From `c` of R; the types are dtq's own rule, docs/LANGUAGE.md, section "Operators".
 pub fn combine<L: Ledger>(
@@ -104,7 +110,8 @@ pub fn combine<L: Ledger>(
     ensures answer { AnswersAs vector_of (joined (map vector_in values.now)) result }
     ensures own { IfErr result IsOwn }
     ensures touches { steps.new ≤ steps.old + total_length (map vector_in values.now) }
-    ensures once { IfOk result (λ c. steps.new ≡ steps.old + total_length (map vector_in values.now)) }
+    ensures once { IfOk result
+        (λ c. steps.new ≡ steps.old + total_length (map vector_in values.now)) }
 {
     if are_too_many(values) {
         return Err(stop(alloc, Code::E07, ""));

@@ -5,9 +5,10 @@
 //! - `any`, `all`: over logicals, with NA.
 //! - `first`, `last`, `length`.
 //!
-//! Each takes a column and gives a `Valued`, a column of its own with its warnings, or an `EvalFail`:
-//! the function's own fault, or want of memory. It stands on the words of columns, `na_words`, and on
-//! `eval_fail` and `valued` for its answers; what values the calls of a script stands on it.
+//! Each takes a column and gives a `Valued`, a column of its own with its warnings, or an
+//! `EvalFail`: the function's own fault, or want of memory. It stands on the words of columns,
+//! `na_words`, and on `eval_fail` and `valued` for its answers; what values the calls of a script
+//! stands on it.
 //!
 //! Each answer is that of its definition in `vector_model`, Functions, and the faults come exactly
 //! where they come there. Each is linear in the cells and touches each once, but for `first` and

@@ -14,11 +14,13 @@ use na_words::{Number, Word};
 pub trait Ranked: Word {
     /// Whether it stands before the other one: NA stands neither before nor behind.
     fn is_before(&self, other: &Self) -> bool
-        ensures { result ≡ is_before (extreme_type Self.kind) (Self.cell self.now) (Self.cell other.now) };
+        ensures { result ≡ is_before (extreme_type Self.kind) (Self.cell self.now)
+            (Self.cell other.now) };
 
     /// Its cell is NA, or has a place in the order.
     ghost ranked: { (x : Self) →
-        has_rank (extreme_type Self.Word.kind) (Self.Word.cell x) ≡ not (is_na (Self.Word.cell x)) };
+        has_rank (extreme_type Self.Word.kind) (Self.Word.cell x)
+        ≡ not (is_na (Self.Word.cell x)) };
 }
 
 /// Whether an integer is less than another one, where neither is NA.

@@ -1,4 +1,5 @@
-ghost use Rattle.std.specs.Prelude.{◌≡◌, ◌+◌, ◌^◌, ◌≤◌, ◌+ℤ◌, ◌≤ℤ◌, pos, neg_ℤ, nat_lt, unsigned_abs, length, map, IfErr};
+ghost use Rattle.std.specs.Prelude.{◌≡◌, ◌+◌, ◌^◌, ◌≤◌, ◌+ℤ◌, ◌≤ℤ◌, pos, neg_ℤ, nat_lt};
+ghost use Rattle.std.specs.Prelude.{unsigned_abs, length, map, IfErr};
 ghost use Rattle.dt_base.specs.declared.limits.TheConstants.{MAX_ROWS};
 ghost use Rattle.dt_model.specs.Operations.{number, whole};
 ghost use Rattle.vector_model.specs.Functions.{amount, total, total_value, sum_cells, sum_value};
@@ -109,13 +110,14 @@ fn sum_of(alloc: Global, words: Words<'_>, na_rm: bool) -> Result<Valued, EvalFa
     }
 }
 
-/// The sum of the cells, an integer: FALSE is 0 and TRUE is 1, and that of nothing is 0. NA gives NA,
-/// or is left out under `na_rm`. A column of texts is E04 with `sum`. A total that no cell holds is E06
-/// with `sum`, whatever the order of the cells: it is looked at as a whole.
+/// The sum of the cells, an integer: FALSE is 0 and TRUE is 1, and that of nothing is 0. NA gives
+/// NA, or is left out under `na_rm`. A column of texts is E04 with `sum`. A total that no cell
+/// holds is E06 with `sum`, whatever the order of the cells: it is looked at as a whole.
 ///
 /// It touches each cell of the column once.
 ///
-/// From `sum` of R, which gives NA with a warning on overflow; docs/LANGUAGE.md, section "Functions".
+/// From `sum` of R, which gives NA with a warning on overflow; docs/LANGUAGE.md, section
+/// "Functions".
 pub fn sum<L: Ledger>(
     alloc: Global,
     x: &Column,

@@ -2,7 +2,8 @@ ghost use Rattle.std.specs.Prelude.{◌≡◌, ◌+◌, map, length, if◌then�
 ghost use Rattle.std.specs.List.{list_any};
 ghost use Rattle.dt_base.specs.declared.cell.Cell.TheVariants as is;
 ghost use Rattle.dt_model.specs.Coercion.{is_na};
-ghost use Rattle.vector_model.specs.Functions.{is_true, is_false, any_cell, all_cell, any_value, all_value};
+ghost use Rattle.vector_model.specs.Functions.{is_true, is_false, any_cell, all_cell, any_value};
+ghost use Rattle.vector_model.specs.Functions.{all_value};
 ghost use Rattle.eval_fail.specs.Answers.{AnswersAs, IsOwn};
 ghost use Rattle.na_vector.specs.Words.{lgl_cell, lgl_vector, IsLglWord};
 ghost use Rattle.na_words.specs.Shown.{shown};
@@ -119,8 +120,8 @@ fn all_of(alloc: Global, words: Words<'_>) -> Result<Valued, EvalFail>
     }
 }
 
-/// Whether some cell is TRUE: TRUE where one is, else NA where one is NA, else FALSE. So that of nothing
-/// is FALSE. Another type than logical is E04 with `any`.
+/// Whether some cell is TRUE: TRUE where one is, else NA where one is NA, else FALSE. So that of
+/// nothing is FALSE. Another type than logical is E04 with `any`.
 ///
 /// It touches each cell of the column once.
 ///
@@ -134,8 +135,8 @@ pub fn any<L: Ledger>(alloc: Global, x: &Column, steps: &mut Steps<L>) -> Result
     any_of(alloc, words)
 }
 
-/// Whether every cell is TRUE: FALSE where one is FALSE, else NA where one is NA, else TRUE. So that of
-/// nothing is TRUE. Another type than logical is E04 with `all`.
+/// Whether every cell is TRUE: FALSE where one is FALSE, else NA where one is NA, else TRUE. So
+/// that of nothing is TRUE. Another type than logical is E04 with `all`.
 ///
 /// It touches each cell of the column once.
 ///

@@ -9,7 +9,9 @@ use Rattle.dt_base.specs.declared.fault.Code.TheVariants.{E04, E06}
 use Rattle.dt_base.specs.declared.fault.Fault.{Fault}
 use Rattle.dt_base.specs.declared.warns.Warns.{Warns}
 use Rattle.dt_model.specs.Vector.{Vector}
-use Rattle.vector_model.specs.Functions.{Valued, plain, warned, sum_type, sum_value, min_type, min_value, max_type, max_value, any_type, any_value, all_type, all_value, first_type, first_value, last_type, last_value, length_type, length_value}
+use Rattle.vector_model.specs.Functions.{Valued, plain, warned, sum_type, sum_value, min_type, min_value, max_type}
+use Rattle.vector_model.specs.Functions.{max_value, any_type, any_value, all_type, all_value, first_type, first_value}
+use Rattle.vector_model.specs.Functions.{last_type, last_value, length_type, length_value}
 
 abbrev lgls : List Cell → Vector
 lgls cells = record { kind = ty.Lgl; cells = cells }
@@ -59,7 +61,8 @@ sum_past_the_greatest = refl
 sum_past_and_back : sum_value false (ints (Int greatest ∷ Int (pos 1) ∷ Int (negsuc 0) ∷ [])) ≡ one_int greatest
 sum_past_and_back = refl
 
-sum_past_the_least : sum_value false (ints (Int (negsuc 9223372036854775806) ∷ Int (negsuc 0) ∷ [])) ≡ Err (fault E06 (codes "sum"))
+sum_past_the_least : sum_value false (ints (Int (negsuc 9223372036854775806) ∷ Int (negsuc 0) ∷ []))
+    ≡ Err (fault E06 (codes "sum"))
 sum_past_the_least = refl
 
 -- NA is met before the total is looked at
@@ -89,10 +92,12 @@ max_of_truth : max_value true (lgls (Lgl false ∷ Na ∷ Lgl true ∷ [])) ≡ 
 max_of_truth = refl
 
 -- texts go by their bytes, and not by their length: B, then aa, then b
-min_of_texts : min_value false (texts (Text (codes "b") ∷ Text (codes "aa") ∷ Text (codes "B") ∷ [])) ≡ plain ty.Chr (Text (codes "B") ∷ [])
+min_of_texts : min_value false (texts (Text (codes "b") ∷ Text (codes "aa") ∷ Text (codes "B") ∷ []))
+    ≡ plain ty.Chr (Text (codes "B") ∷ [])
 min_of_texts = refl
 
-max_of_texts : max_value false (texts (Text (codes "aa") ∷ Text (codes "b") ∷ Text (codes "B") ∷ [])) ≡ plain ty.Chr (Text (codes "b") ∷ [])
+max_of_texts : max_value false (texts (Text (codes "aa") ∷ Text (codes "b") ∷ Text (codes "B") ∷ []))
+    ≡ plain ty.Chr (Text (codes "b") ∷ [])
 max_of_texts = refl
 
 min_meets_na : min_value false (ints (Int (pos 1) ∷ Na ∷ [])) ≡ int_na

@@ -7,7 +7,10 @@ use Rattle.dt_base.specs.declared.cell.ColType.TheVariants as ty
 use Rattle.dt_base.specs.declared.fault.Fault.{Fault}
 use Rattle.dt_model.specs.Operations.{Outcome, Outside, Gives, whole}
 use Rattle.dt_model.specs.Vector.{Vector}
-use Rattle.vector_model.specs.Functions.{Valued, of_type, total, total_value, sum_type, sum_value, sum_cells, meets_na, extreme_type, found_value, winner, extreme_cells, min_type, min_value, max_type, max_value, any_type, any_value, all_type, all_value, first_type, first_value, last_type, last_value, length_type, length_value}
+use Rattle.vector_model.specs.Functions.{Valued, of_type, total, total_value, sum_type, sum_value, sum_cells, meets_na}
+use Rattle.vector_model.specs.Functions.{extreme_type, found_value, winner, extreme_cells, min_type, min_value}
+use Rattle.vector_model.specs.Functions.{max_type, max_value, any_type, any_value, all_type, all_value, first_type}
+use Rattle.vector_model.specs.Functions.{first_value, last_type, last_value, length_type, length_value}
 
 -- an answer, where there is one, has this type
 abbrev pub HasType : ColType → Result Valued Fault → Type 0
@@ -25,7 +28,8 @@ either : (b : Bool) (t : ColType) (r s : Result Valued Fault) → HasType t r �
 either true t r s h k = h
 either false t r s h k = k
 
-of_type_agrees : (r : Result ColType Fault) (k : ColType → Result Valued Fault) → ((t : ColType) → r ≡ Ok t → HasType t (k t)) → Agrees r (of_type r k)
+of_type_agrees : (r : Result ColType Fault) (k : ColType → Result Valued Fault)
+    → ((t : ColType) → r ≡ Ok t → HasType t (k t)) → Agrees r (of_type r k)
 of_type_agrees (Ok t) k h = h t refl
 of_type_agrees (Err f) k h = refl
 
@@ -37,18 +41,22 @@ sum_cells_type : (na_rm : Bool) (cells : List Cell) → HasType ty.Int (sum_cell
 sum_cells_type na_rm cells = either (meets_na na_rm cells) ty.Int _ _ refl (total_type (whole (total cells)))
 
 sum_kind : (na_rm : Bool) (cells : List Cell) (k t : ColType) → sum_type k ≡ Ok t → HasType t (sum_cells na_rm cells)
-sum_kind na_rm cells ty.Lgl t h = let e : ty.Int ≡ t = cc in subst (λ u. HasType u (sum_cells na_rm cells)) e (sum_cells_type na_rm cells)
-sum_kind na_rm cells ty.Int t h = let e : ty.Int ≡ t = cc in subst (λ u. HasType u (sum_cells na_rm cells)) e (sum_cells_type na_rm cells)
+sum_kind na_rm cells ty.Lgl t h = let e : ty.Int ≡ t = cc in
+    subst (λ u. HasType u (sum_cells na_rm cells)) e (sum_cells_type na_rm cells)
+sum_kind na_rm cells ty.Int t h = let e : ty.Int ≡ t = cc in
+    subst (λ u. HasType u (sum_cells na_rm cells)) e (sum_cells_type na_rm cells)
 sum_kind na_rm cells ty.Chr t h = cc
 
 pub sum_agrees : (na_rm : Bool) (x : Vector) → Agrees (sum_type x.kind) (sum_value na_rm x)
-sum_agrees na_rm x = of_type_agrees (sum_type x.kind) (λ t. sum_cells na_rm x.cells) (λ t h. sum_kind na_rm x.cells x.kind t h)
+sum_agrees na_rm x = of_type_agrees (sum_type x.kind) (λ t. sum_cells na_rm x.cells)
+    (λ t h. sum_kind na_rm x.cells x.kind t h)
 
 found_type : (t : ColType) (o : Option Cell) → HasType t (found_value t o)
 found_type t None = refl
 found_type t (Some c) = refl
 
-extreme_cells_type : (beats : Cell → Cell → Bool) (t : ColType) (na_rm : Bool) (cells : List Cell) → HasType t (extreme_cells beats t na_rm cells)
+extreme_cells_type : (beats : Cell → Cell → Bool) (t : ColType) (na_rm : Bool) (cells : List Cell)
+    → HasType t (extreme_cells beats t na_rm cells)
 extreme_cells_type beats t na_rm cells = either (meets_na na_rm cells) t _ _ refl (found_type t (winner beats cells))
 
 pub min_agrees : (na_rm : Bool) (x : Vector) → Agrees (min_type x.kind) (min_value na_rm x)

@@ -13,7 +13,8 @@
 --   `is.na(x)`             Operations, `unary` with IsNa
 --   `fifelse(test, a, b)`  Operations, `chosen`
 --   `as.logical(x)`, `as.integer(x)`, `as.character(x)`   Coercion, `coerced` and `coercion_warns`
-use Rattle.std.specs.Prelude.{◌-◌, ℤ, pos, ◌+ℤ◌, Bool, true, false, not, ◌&&◌, if◌then◌else◌, List, [], ◌∷◌, length, take, drop, Option, None, Some, Result, Ok, Err, codes}
+use Rattle.std.specs.Prelude.{◌-◌, ℤ, pos, ◌+ℤ◌, Bool, true, false, not, ◌&&◌, if◌then◌else◌, List, [], ◌∷◌, length}
+use Rattle.std.specs.Prelude.{take, drop, Option, None, Some, Result, Ok, Err, codes}
 use Rattle.std.specs.List.{list_any, find}
 use Rattle.std.specs.Ordering.{is_lt}
 use Rattle.std.specs.declared.cmp.Ordering.{Ordering}

@@ -1,5 +1,5 @@
-//! Runs cases of which each wants something wrong, so that a runner that passes over a difference is
-//! seen: `stdout` says how many of how many fail, and `status` that the program ends with 1.
+//! Runs cases of which each wants something wrong, so that a runner that passes over a difference
+//! is seen: `stdout` says how many of how many fail, and `status` that the program ends with 1.
 //!
 //! It is `case_runner` as a program, and promises nothing.
 #![tactic(auto)]

@@ -1,5 +1,5 @@
 ghost use Rattle.std.specs.Prelude.{◌≡◌, ◌<◌};
-ghost use Rattle.expr_eval.specs.Scope.{IsScope};
+ghost use Rattle.expr_scope.specs.Scope.{IsScope};
 
 use crate::tests::surroundings::{NoNames, parts, scope};
 use dt_base::{ColType, Steps};
@@ -30,7 +30,8 @@ const SPECIAL: [Row; 2] = [
     (b".SD", "Error E04 at line 1: wrong type in .SD\n"),
 ];
 
-/// Calls of which a script is told first that nothing serves them: without a look at their arguments.
+/// Calls of which a script is told first that nothing serves them: without a look at their
+/// arguments.
 const CALLS: [Row; 8] = [
     (b"key(D)", "Error E04 at line 1: wrong type in key\n"),
     (

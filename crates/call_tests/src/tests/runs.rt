@@ -143,7 +143,8 @@ fn failures_and_a_script_that_is_too_long(rt: HostRuntime) -> Result<(), Fail> {
 }
 
 const EACH_KIND: &str =
-    "library(data.table)\nx <- fread(\"f.csv\")\ny <- x\nz <- copy(x)\nrm(x)\nprint(z)\nfwrite(y, \"o.csv\")\n1L\n";
+    "library(data.table)\nx <- fread(\"f.csv\")\ny <- x\nz <- copy(x)\nrm(x)\nprint(z)\n\
+    fwrite(y, \"o.csv\")\n1L\n";
 
 /// One run with a statement of each kind, which may run out of memory anywhere.
 fn run_once<L: Ledger>(alloc: Global, blank: Blank) -> Result<Given, AllocError>

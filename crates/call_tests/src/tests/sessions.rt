@@ -87,7 +87,8 @@ fn run_each<L: Ledger, R: Abort>(
 const NAMES_AND_A_COPY: &str = "a <- data.table(v = 1L, \"q\")\nb <- a\nrm(a)\nb\nc <- copy(b)\n";
 
 const BRACKETS: &str =
-    "D <- data.table(a = 1:2)\nE <- D[]\nF <- D[,][]\nrm(D)\nG <- E[TRUE]\nG <- E[, .(a)]\nx <- E[, a]\nE\nH <- (E[])\ncopy(H)\n(H)\n";
+    "D <- data.table(a = 1:2)\nE <- D[]\nF <- D[,][]\nrm(D)\nG <- E[TRUE]\nG <- E[, .(a)]\n\
+    x <- E[, a]\nE\nH <- (E[])\ncopy(H)\n(H)\n";
 
 /// An empty bracket gives one more name of the same table; any other bracket a table of its own, or
 /// a vector. A table prints as three lines of five bytes.

@@ -1,6 +1,6 @@
 ghost use Rattle.std.specs.Prelude.{◌≡◌, ◌<◌, ◌≤◌, IfSome, length};
 ghost use Rattle.dt_base.specs.declared.limits.TheConstants.{MAX_ROWS};
-ghost use Rattle.expr_eval.specs.Scope.{IsScope};
+ghost use Rattle.expr_scope.specs.Scope.{IsScope};
 
 use dt_base::{ColName, Text};
 use dt_table::Table;
@@ -25,8 +25,8 @@ impl Vars for NoNames {
     }
 }
 
-/// The parts of a bracket: three rows with the column `a`, and the one row that they share, with the
-/// column `g`.
+/// The parts of a bracket: three rows with the column `a`, and the one row that they share, with
+/// the column `g`.
 #[derive(Drop)]
 pub struct Rows {
     pub names: Vec<ColName>,

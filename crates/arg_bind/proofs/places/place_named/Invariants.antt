@@ -5,4 +5,5 @@ use Rattle.session_model.specs.Binding.{named, unnamed}
 use Rattle.arg_bind.proofs.places.place_named.Given as goal
 
 abbrev pub invariant-loop-i : goal.invariant-loop-i
-invariant-loop-i l = named l.w 0 (names_in (map arg_meaning l.args)) ≡ named l.w l.i (names_in (map arg_meaning (drop l.i l.args)))
+invariant-loop-i l = named l.w 0 (names_in (map arg_meaning l.args))
+    ≡ named l.w l.i (names_in (map arg_meaning (drop l.i l.args)))

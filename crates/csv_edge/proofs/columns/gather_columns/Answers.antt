@@ -12,7 +12,8 @@ returns-clause-count c =
     let once : length first ≡ len = c.read_rows.auto.columns ∙ c.deref_mut.ensures.len in
     let twice : length second ≡ len = c.read_late.auto.columns ∙ c.deref_mut-2.ensures.len in
     let back = written_back first c.in_ok-columns.columns.items len once in
-    rw (written_back second (take len (first ++ drop (length first) c.in_ok-columns.columns.items)) len twice) (twice ∙ c.in_ok-columns.ensures.count)
+    rw (written_back second (take len (first ++ drop (length first) c.in_ok-columns.columns.items)) len twice)
+    (twice ∙ c.in_ok-columns.ensures.count)
 
 -- the columns were empty, and gained the fields of all records in both readings
 pub returns-clause-fields : goal.returns-clause-fields
@@ -27,7 +28,8 @@ returns-clause-fields c =
     let between = c.deref_mut-2.ensures.value ∙ back in
     let fields : Gathered second rows =
     gathered c.deref_mut.result.now first second rows c.read_rows.auto.columns (omega (arith, once, twice))
-    (λ k d h. rw c.deref_mut.ensures.value (c.in_ok-columns.ensures.empty k d (omega (arith, c.deref_mut.ensures.len, c.in_ok-columns.ensures.count))))
+    (λ k d h. rw c.deref_mut.ensures.value (c.in_ok-columns.ensures.empty k d
+    (omega (arith, c.deref_mut.ensures.len, c.in_ok-columns.ensures.count))))
     (rw c.requires.below at c.in_ok-read_rows.ensures.fields)
     (rw between at c.in_ok-read_late.ensures.fields) in
     rw (written_back second (take len (first ++ drop (length first) c.in_ok-columns.columns.items)) len twice) fields

@@ -10,6 +10,7 @@ loop-c-preserved c = λ k d fields h.
       | inl lt ↦ c.loop-c.invariant k d fields lt
       | inr ge ↦ (let same : k ≡ c.loop-c.c = omega (arith, h, ge) in
           let here : get_or c.args.columns.now c.loop-c.c d ≡ c.index-columns-c.result =
-          get_or_default c.args.columns.now c.loop-c.c d c.index-columns-c.result c.loop-c-test.true ∙ sym c.index-columns-c.is in
+          get_or_default c.args.columns.now c.loop-c.c d c.index-columns-c.result c.loop-c-test.true
+          ∙ sym c.index-columns-c.is in
           rw (same, here) (c.is_late.ensures c.if-is_late.false fields))
     ]

@@ -11,7 +11,8 @@ abbrev pub invariant-loop-field : goal.invariant-loop-field
 invariant-loop-field l = record {
   within : l.c ≤ length (fields_of l.row);
   text : list_all is_utf8 (take l.c (fields_of l.row)) ≡ true;
-  grown : (k : ℕ) (d : Filling) → k < l.c → Gains l.again (get_or l.fn.columns k d) (get_or l.columns k d) (get_or (fields_of l.row) k [] ∷ []);
+  grown : (k : ℕ) (d : Filling) → k < l.c → Gains l.again (get_or l.fn.columns k d) (get_or l.columns k d)
+      (get_or (fields_of l.row) k [] ∷ []);
   same : (k : ℕ) (d : Filling) → l.c ≤ k → get_or l.columns k d ≡ get_or l.fn.columns k d;
 }
 

@@ -13,9 +13,11 @@ loop-row-preserved c =
     let after = left c.next_record.new.reader in
     let before = left c.loop-row.reader in (
       c.in_ok-next_record.ensures.open c.if-branch.true,
-      rows_fault_next (length c.args.columns.now) (length c.loop-row.columns) c.loop-row.before row after before rest c.loop-row.auto.columns c.in_ok-take_record.ensures.right ∙ c.loop-row.invariant.1,
+      rows_fault_next (length c.args.columns.now) (length c.loop-row.columns) c.loop-row.before row after before rest
+          c.loop-row.auto.columns c.in_ok-take_record.ensures.right ∙ c.loop-row.invariant.1,
       (λ k d end h more. c.loop-row.invariant.2 k d end h
-          (fields_next c.args.again (get_or c.loop-row.columns k d) (get_or c.take_record.new.columns k d) end k row after before
+          (fields_next c.args.again (get_or c.loop-row.columns k d) (get_or c.take_record.new.columns k d) end k
+          row after before
           rest (c.in_ok-take_record.ensures.fields k d (omega (arith, h, c.loop-row.auto.columns))) more)),
       omega (arith, c.in_ok-take_record.ensures.room),
     )
@@ -24,4 +26,5 @@ loop-row-preserved c =
 pub returns-clause-fields : goal.returns-clause-fields
 returns-clause-fields c = λ k d h.
     let none = rw c.if-branch.false at c.in_ok-next_record.ensures.record in
-    c.loop-row.invariant.2 k d (get_or c.loop-row.columns k d) h (rw none (gains_none c.args.again (get_or c.loop-row.columns k d)))
+    c.loop-row.invariant.2 k d (get_or c.loop-row.columns k d) h
+    (rw none (gains_none c.args.again (get_or c.loop-row.columns k d)))

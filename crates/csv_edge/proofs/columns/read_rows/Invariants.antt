@@ -9,9 +9,11 @@ use Rattle.csv_edge.proofs.columns.read_rows.Given as goal
 abbrev pub invariant-loop-row : goal.invariant-loop-row
 invariant-loop-row l =
     IsOpen l.reader
-    × (rows_fault (length l.fn.columns) l.before (left l.reader) ≡ rows_fault (length l.fn.columns) 0 (left l.fn.reader))
+    × (rows_fault (length l.fn.columns) l.before (left l.reader)
+    ≡ rows_fault (length l.fn.columns) 0 (left l.fn.reader))
     × ((c : ℕ) (d after : Filling) → c < length l.fn.columns
-    → Gains l.again (get_or l.columns c d) after (fields_at c (left l.reader)) → Gains l.again (get_or l.fn.columns c d) after (fields_at c (left l.fn.reader)))
+    → Gains l.again (get_or l.columns c d) after (fields_at c (left l.reader))
+    → Gains l.again (get_or l.fn.columns c d) after (fields_at c (left l.fn.reader)))
     × (l.before ≤ 16777216)
 
 -- fewer records are left each time

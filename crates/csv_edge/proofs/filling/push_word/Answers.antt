@@ -5,10 +5,13 @@ use Rattle.csv_edge.proofs.filling.push_word.Goals as goal
 
 -- words of logicals and integers are text
 pub returns-in-Missing-clause-text : goal.returns-in-Missing-clause-text
-returns-in-Missing-clause-text c = let f = c.args.field.now in took_text f (is_missing f) c.count_missing.result (missing_text f) c.count_missing.ensures.suits
+returns-in-Missing-clause-text c = let f = c.args.field.now in
+    took_text f (is_missing f) c.count_missing.result (missing_text f) c.count_missing.ensures.suits
 
 pub returns-in-Lgl-clause-text : goal.returns-in-Lgl-clause-text
-returns-in-Lgl-clause-text c = let f = c.args.field.now in took_text f (suits ty.Lgl f) c.push_lgl.result (lgl_text f) c.push_lgl.ensures.suits
+returns-in-Lgl-clause-text c = let f = c.args.field.now in
+    took_text f (suits ty.Lgl f) c.push_lgl.result (lgl_text f) c.push_lgl.ensures.suits
 
 pub returns-in-Int-clause-text : goal.returns-in-Int-clause-text
-returns-in-Int-clause-text c = let f = c.args.field.now in took_text f (suits ty.Int f) c.push_int.result (int_text f) c.push_int.ensures.suits
+returns-in-Int-clause-text c = let f = c.args.field.now in
+    took_text f (suits ty.Int f) c.push_int.result (int_text f) c.push_int.ensures.suits

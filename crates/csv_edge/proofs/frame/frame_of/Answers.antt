@@ -19,14 +19,17 @@ loop-column-preserved c =
     let longer = simp length-append at (ap length joined) in (
       tt,
       tt,
-      columns_next c.loop-column.frame.columns c.push_col.new.self.columns col x left rest _ joined c.in_ok-column_of.ensures taken was.2,
+      columns_next c.loop-column.frame.columns c.push_col.new.self.columns col x left rest _ joined
+          c.in_ok-column_of.ensures taken was.2,
       All-rest IsSound x rest left taken was.3,
       length_rest x left rest _ taken was.4,
-      (λ _. c.in_ok-push_col.ensures.rows ∙ (column_cells col x c.in_ok-column_of.ensures ∙ length_first x left rest _ taken was.4)),
+      (λ _. c.in_ok-push_col.ensures.rows ∙ (column_cells col x c.in_ok-column_of.ensures
+          ∙ length_first x left rest _ taken was.4)),
       (λ none. absurd (omega arith)),
     )
 
 pub returns-clause-rows : goal.returns-clause-rows
 returns-clause-rows c =
     let was = c.loop-column.invariant in
-    rows_all c.args.columns.items c.loop-column.frame.columns c.loop-column.frame.rows (grind (arith, common_steps)) was.6 was.5
+    rows_all c.args.columns.items c.loop-column.frame.columns c.loop-column.frame.rows
+    (grind (arith, common_steps)) was.6 was.5

@@ -26,5 +26,6 @@ read_below-requires-clause-cells g c = λ right.
     let first = rw c.if-branch.true at c.in_ok-next_record.ensures.record in
     let all = sym c.open-reader.ensures.records ∙ first in
     let rest : below c.args.bytes.now ≡ left c.next_record.new.reader = ap (drop 1) all in
-    let within = cells_within c.args.bytes.now (fields_of c.next_record.new.row) (left c.next_record.new.reader) all (rw rest at right) in
+    let within = cells_within c.args.bytes.now (fields_of c.next_record.new.row) (left c.next_record.new.reader) all
+    (rw rest at right) in
     rw rest (omega (arith, within, c.requires))

@@ -7,7 +7,8 @@ use Rattle.csv_edge.proofs.records.next_record.Goals.{in-Ok, in-Err}
 pub returns-clause-open : goal.returns-clause-open
 returns-clause-open c = elim c.match-read_byte_record.branch [
   | in-Ok w ↦ rw w.result-is
-      (left_after w.in-Ok.found c.args.reader.now c.read_byte_record.new.self (fields_of c.read_byte_record.new.row) c.requires
+      (left_after w.in-Ok.found c.args.reader.now c.read_byte_record.new.self
+      (fields_of c.read_byte_record.new.row) c.requires
       (w.in-Ok.ensures.ready c.requires.plain) (w.in-Ok.ensures.reads c.requires.plain c.requires.ready)).0
   | in-Err w ↦ rw w.result-is tt
 ]
@@ -15,7 +16,8 @@ returns-clause-open c = elim c.match-read_byte_record.branch [
 pub returns-clause-record : goal.returns-clause-record
 returns-clause-record c = elim c.match-read_byte_record.branch [
   | in-Ok w ↦ rw w.result-is
-      (left_after w.in-Ok.found c.args.reader.now c.read_byte_record.new.self (fields_of c.read_byte_record.new.row) c.requires
+      (left_after w.in-Ok.found c.args.reader.now c.read_byte_record.new.self
+      (fields_of c.read_byte_record.new.row) c.requires
       (w.in-Ok.ensures.ready c.requires.plain) (w.in-Ok.ensures.reads c.requires.plain c.requires.ready)).1
   | in-Err w ↦ rw w.result-is tt
 ]

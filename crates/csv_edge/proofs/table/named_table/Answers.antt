@@ -1,7 +1,7 @@
 use Rattle.std.proofs.Common.{[], ◌∙◌, arith}
 use Rattle.std.proofs.lemmas.Grind.{common_steps}
 use Rattle.csv.specs.Records.{fields_of}
-use Rattle.csv_edge.proofs.NamesFacts.{names_after-length, column_names-filled}
+use Rattle.header_names.proofs.NamesFacts.{names_after-length, column_names-filled}
 use Rattle.csv_edge.proofs.TableFacts.{not_refused}
 use Rattle.csv_edge.proofs.table.named_table.Goals as goal
 
@@ -17,5 +17,6 @@ make-requires-clause-filled c = rw c.in_ok-names.ensures (column_names-filled (f
 -- nothing but memory can lack
 pub unreachable-requires : goal.unreachable-requires
 unreachable-requires c =
-    let none = not_refused c.in_ok-names.names.items (fields_of c.args.header.now) c.args.frame c.in_ok-names.ensures c.requires.width c.requires.columns c.requires.rows c.requires.cells in
+    let none = not_refused c.in_ok-names.names.items (fields_of c.args.header.now) c.args.frame c.in_ok-names.ensures
+    c.requires.width c.requires.columns c.requires.rows c.requires.cells in
     grind (arith, common_steps, none, c.in-Err.ensures.refused)

@@ -9,6 +9,9 @@ use Rattle.dt_cli.proofs.ending.words_after_name.Goals as goal
 pub returns : goal.returns
 returns c =
     let all : into_iter_len c.args.all ≡ length (into_iter_items c.args.all) = c.args.all.rest.ok.0 in
-    IfOk-weaker c.collect.result _ _ (λ v e. ap (map string_bytes) e ∙ sym (drop-map string_bytes 1 (into_iter_items c.args.all)))
+    IfOk-weaker c.collect.result _ _
+    (λ v e. ap (map string_bytes) e ∙ sym (drop-map string_bytes 1 (into_iter_items c.args.all)))
     (items_from_collect _ c.collect.ensures.ran
-    (YieldsList-from_skip 1 (YieldsList-from_vec (into_iter_items c.args.all) (ap into_iter_items c.skip.ensures.source) (ap into_iter_len c.skip.ensures.source ∙ all)) c.skip.ensures.count))
+    (YieldsList-from_skip 1 (YieldsList-from_vec (into_iter_items c.args.all)
+    (ap into_iter_items c.skip.ensures.source) (ap into_iter_len c.skip.ensures.source ∙ all))
+    c.skip.ensures.count))

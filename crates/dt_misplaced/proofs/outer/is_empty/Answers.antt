@@ -13,4 +13,5 @@ pub returns : goal.returns
 returns c =
     let b = out-Bracket c.args.bracket.now in
     c.is_empty.ensures ∙ ap (λ xs. length xs == 0) c.as_slice.ensures
-    ∙ by_args b.first b.second b.third b.args (sym c.if-is_some.ensures) (sym c.if-is_some-2.ensures) (sym c.if-is_some-3.ensures)
+    ∙ by_args b.first b.second b.third b.args (sym c.if-is_some.ensures) (sym c.if-is_some-2.ensures)
+    (sym c.if-is_some-3.ensures)

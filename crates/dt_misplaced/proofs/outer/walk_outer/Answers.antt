@@ -11,5 +11,6 @@ returns-in_default c = rw (outer_other c.args.expr.now c.in_default.not-Query) c
 pub returns-in_ok-walk-in-Query : goal.returns-in_ok-walk-in-Query
 returns-in_ok-walk-in-Query c =
     two_parts _ _ _ _ _ _ _ c.in_ok-walk-in-Query.ensures
-    (ap (λ e. outer (tree_of e)) c.in-Query.is ∙ outer-Query c.in-Query.head c.in-Query.brackets ∙ ap₂ (λ a b. inner (tree_of a) ++ outer_brackets (brackets_of b)) (sym c.get.ensures) (sym c.as_slice.ensures))
+    (ap (λ e. outer (tree_of e)) c.in-Query.is ∙ outer-Query c.in-Query.head c.in-Query.brackets
+    ∙ ap₂ (λ a b. inner (tree_of a) ++ outer_brackets (brackets_of b)) (sym c.get.ensures) (sym c.as_slice.ensures))
     c.walk_chain.ensures

@@ -18,7 +18,8 @@ loop-c-preserved g c =
     let width : ℕ = slice_index c.args.widths.now c.loop-c.c in
     record {
       text =
-          added_next (λ p. part (slice_index c.args.widths.now p) (frame_cell c.args.frame.now.columns c.args.place p)) c.loop-c.c _ _ _ _
+          added_next (λ p. part (slice_index c.args.widths.now p) (frame_cell c.args.frame.now.columns c.args.place p))
+          c.loop-c.c _ _ _ _
           c.loop-c.invariant.text c.in_ok-push_cell.ensures
           ((λ i. part width (cell_text (c.kind.ensures i) (c.cell-cell.ensures.value i)))
           ∙ ap (λ o. part width (text_at o c.args.place)) (sym c.col-column.ensures.place));

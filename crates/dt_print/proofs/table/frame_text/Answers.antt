@@ -13,7 +13,8 @@ returns-then-rows-eq0-clause-text g c =
     let none : c.args.frame.now.rows ≡ 0 = omega arith in
     let P : List ℕ → Type 0 = λ t. IfOk c.empty_table.result (λ v. v.items ≡ t) in
     subst P
-    (sym (ap (λ n. printed_table (frame_heads c.args.names.now c.args.frame.now.columns) (rows_of n (vectors_of c.args.frame.now.columns))) none
+    (sym (ap (λ n. printed_table (frame_heads c.args.names.now c.args.frame.now.columns)
+    (rows_of n (vectors_of c.args.frame.now.columns))) none
     ∙ printed-empty c.args.names.now c.args.frame.now.columns c.requires some))
     c.empty_table.ensures
 

@@ -10,7 +10,8 @@ loop-place-preserved g c = record {
   widest =
       widest_more (cell_width_at c.args.column.now.vector) c.args.from c.loop-place.place _ _ _ c.loop-place.auto.place
       c.loop-place.invariant.widest
-      (c.in_ok-cell_width.ensures.width ∙ (λ i. characters (cell_text (c.kind.ensures i) (c.cell-cell.ensures.value i))))
+      (c.in_ok-cell_width.ensures.width ∙ (λ i. characters
+      (cell_text (c.kind.ensures i) (c.cell-cell.ensures.value i))))
       c.max-widest.ensures;
   same = c.cell_width.ensures.same ∙ c.loop-place.invariant.same;
   touches = omega (arith, c.loop-place.auto.place);

@@ -9,7 +9,8 @@ use Rattle.dt_print.proofs.widths.column_widths.Given as goal
 -- the widths of the columns so far, nothing printed, and the touches of each
 abbrev pub invariant-loop-c : goal.invariant-loop-c
 invariant-loop-c g l = record {
-  widths : l.widths.items ≡ map (column_width (frame_heads l.names l.frame.columns) (frame_rows l.frame)) (range_with_len 0 l.c);
+  widths : l.widths.items ≡ map (column_width (frame_heads l.names l.frame.columns) (frame_rows l.frame))
+      (range_with_len 0 l.c);
   same : l.page.text.items ≡ l.initial.page.text.items;
   touches : l.steps ≡ l.initial.steps + l.c * shown_count l.frame.rows;
 }

@@ -5,7 +5,8 @@ use Rattle.dt_script.proofs.FaultPlaces.{fault_place-some, fault_place-none}
 use Rattle.dt_script.proofs.place.place_of.Goals as goal
 
 pub returns-in-Some : goal.returns-in-Some
-returns-in-Some c = sym (fault_place-some (unmarked c.args.bytes.now) c.args.tokens.now c.args.at c.in-Some.placed.now c.in-Some.ensures.lookup.3.0 c.in-Some.ensures.lookup.1)
+returns-in-Some c = sym (fault_place-some (unmarked c.args.bytes.now) c.args.tokens.now c.args.at c.in-Some.placed.now
+    c.in-Some.ensures.lookup.3.0 c.in-Some.ensures.lookup.1)
 
 pub returns-in-None : goal.returns-in-None
 returns-in-None c =

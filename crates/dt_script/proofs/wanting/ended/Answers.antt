@@ -1,7 +1,7 @@
 use Rattle.std.proofs.Common.{◌≡◌, IfOk, option_map, subst}
-use Rattle.dt_script.specs.Ends.{none_step}
-use Rattle.dt_script.specs.Frames.{state_of}
-use Rattle.dt_script.proofs.FrameViews.{frames_of-popped}
+use Rattle.script_frames.specs.Ends.{none_step}
+use Rattle.script_frames.specs.Frames.{state_of}
+use Rattle.script_frames.proofs.FrameViews.{frames_of-popped}
 use Rattle.dt_script.proofs.wanting.ended.Goals as goal
 
 pub returns-in-Some : goal.returns-in-Some

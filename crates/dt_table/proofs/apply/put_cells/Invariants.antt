@@ -7,7 +7,8 @@ use Rattle.dt_table.proofs.apply.put_cells.Given as goal
 -- what is left to be written makes of the column what all makes of the old one
 abbrev pub invariant-loop-k : goal.invariant-loop-k
 invariant-loop-k g l = record {
-  cells : put_in_order (drop l.k l.at) (drop l.k l.fn.cells) (column_at l.frame.columns l.c).vector.cells ≡ put_in_order l.at l.fn.cells (column_at l.fn.frame.columns l.c).vector.cells;
+  cells : put_in_order (drop l.k l.at) (drop l.k l.fn.cells) (column_at l.frame.columns l.c).vector.cells
+      ≡ put_in_order l.at l.fn.cells (column_at l.fn.frame.columns l.c).vector.cells;
   left : drop l.k l.cells ≡ drop l.k l.fn.cells;
   count : length l.cells ≡ length l.fn.cells;
   kind : (column_at l.frame.columns l.c).vector.kind ≡ (column_at l.fn.frame.columns l.c).vector.kind;

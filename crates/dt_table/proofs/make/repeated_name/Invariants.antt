@@ -7,6 +7,7 @@ use Rattle.dt_table.proofs.make.repeated_name.Given as goal
 abbrev pub invariant-loop-place : goal.invariant-loop-place
 invariant-loop-place l =
     record {
-      seen : (q : Bor (List ℕ)) → list_any (λ k. bytes_eq q.now k.now) l.seen.keys ≡ list_any (bytes_eq q.now) (take l.place l.names);
+      seen : (q : Bor (List ℕ)) → list_any (λ k. bytes_eq q.now k.now) l.seen.keys
+          ≡ list_any (bytes_eq q.now) (take l.place l.names);
       none : (k : ℕ) → k < l.place → is_repeated l.names k ≡ false;
     }

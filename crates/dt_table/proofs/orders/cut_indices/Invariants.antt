@@ -5,7 +5,8 @@ use Rattle.dt_table.proofs.orders.cut_indices.Given as goal
 -- the first k indices stay and are moved, and what is left gives the rest
 abbrev pub invariant-loop-k : goal.invariant-loop-k
 invariant-loop-k l = record {
-  moved : take l.k l.indices.items ++ indices_changed (parts_seen l.parts) (drop l.k l.indices.items) ≡ indices_changed (parts_seen l.parts) l.fn.indices.items;
+  moved : take l.k l.indices.items ++ indices_changed (parts_seen l.parts) (drop l.k l.indices.items)
+      ≡ indices_changed (parts_seen l.parts) l.fn.indices.items;
   bound : l.k ≤ length l.indices.items;
 }
 

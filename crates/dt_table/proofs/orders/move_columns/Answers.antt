@@ -7,4 +7,5 @@ use Rattle.dt_table.proofs.orders.move_columns.Goals as goal
 pub loop-k-preserved : goal.loop-k-preserved
 loop-k-preserved c =
     let within : c.loop-k.k < length c.args.cols.now.items = search rules in
-    rw c.stays_before.ensures.place (map_over_more (stays_before (parts_seen c.args.parts.now)) c.args.cols.now.items c.loop-k.cols.items c.loop-k.k c.index.result.now within c.loop-k.invariant c.index.ensures)
+    rw c.stays_before.ensures (map_over_more (stays_before (parts_seen c.args.parts.now)) c.args.cols.now.items
+    c.loop-k.cols.items c.loop-k.k c.index.result.now within c.loop-k.invariant c.index.ensures)

@@ -6,4 +6,5 @@ use Rattle.dt_table.proofs.parts.put_next.Goals as goal
 pub returns-then-not-is_delete-clause-left : goal.returns-then-not-is_delete-clause-left
 returns-then-not-is_delete-clause-left g c =
     let within : c.args.k < length c.args.parts.now.items = search rules in
-    left_other c.args.parts.now.items c.args.k c.args.none c.index.result.now c.replace-part.new.dest within c.index.ensures (sym c.is_delete.ensures ∙ c.if-not-is_delete.true) c.replace-part.ensures.after
+    left_other c.args.parts.now.items c.args.k c.args.none c.index.result.now c.replace-part.new.dest within
+    c.index.ensures (sym c.is_delete.ensures ∙ c.if-not-is_delete.true) c.replace-part.ensures.after

@@ -10,7 +10,9 @@ loop-i-preserved c =
     let room = length-drop l.i c.args.s.now in
     let w = subst (IsWithin (length (drop l.i c.args.s.now))) c.in-Found.is c.in_ok-offset.ensures.within in
     record {
-      reached = reached_more c.args.s.now l.i l.before _ l.out.items _ c.in-Found.piece c.in-Found.len l.place l.invariant.reached l.invariant.place (sym c.in_ok-offset.ensures.value ∙ c.in-Found.is) c.after-next.ensures.value c.in_ok-add-in-Found.ensures;
+      reached = reached_more c.args.s.now l.i l.before _ l.out.items _ c.in-Found.piece c.in-Found.len l.place
+          l.invariant.reached l.invariant.place (sym c.in_ok-offset.ensures.value ∙ c.in-Found.is)
+          c.after-next.ensures.value c.in_ok-add-in-Found.ensures;
       place = m.place;
       line = m.line;
       byte = m.byte;

@@ -1,7 +1,6 @@
-use Rattle.std.proofs.Common.{map, arith, All, subst, sym, []}
+use Rattle.std.proofs.Common.{arith, All, subst, sym}
 use Rattle.std.proofs.lemmas.List.Elements.{All-push}
 use Rattle.std.proofs.lemmas.Grind.{common_steps}
-use Rattle.dt_model.specs.Operations.{at_place}
 use Rattle.na_ops.proofs.Fill.{settled_at, settled_all, word_more}
 use Rattle.na_ops.proofs.places.fill.Goals as goal
 

@@ -7,4 +7,5 @@ use Rattle.na_words.proofs.convert.some_other.Given as goal
 
 abbrev pub invariant-loop-n : goal.invariant-loop-n
 invariant-loop-n l =
-    list_any (becomes_true ty.Lgl) (map int_cell l.a) ≡ list_any (becomes_true ty.Lgl) (map int_cell (drop l.n-index l.a))
+    list_any (becomes_true ty.Lgl) (map int_cell l.a)
+    ≡ list_any (becomes_true ty.Lgl) (map int_cell (drop l.n-index l.a))

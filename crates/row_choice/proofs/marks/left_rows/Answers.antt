@@ -13,6 +13,7 @@ returns c =
     let cells = map int_cell c.args.words.now in
     let count : length c.deref.result.now ≡ c.args.rows = grind (arith, common_steps) in
     let same : c.deref.result.now ≡ c.mark_all.new.marks = grind (arith, common_steps) in
-    let marked : (p : ℕ) → p < length c.deref.result.now → slice_index_or c.deref.result.now p false ≡ list_any (leaves_out p) cells =
+    let marked : (p : ℕ) → p < length c.deref.result.now
+    → slice_index_or c.deref.result.now p false ≡ list_any (leaves_out p) cells =
     λ p lt. ap (λ xs. slice_index_or xs p false) same ∙ c.mark_all.ensures.marks p (grind (arith, common_steps)) in
     subst P (unmarked_left c.args.rows c.deref.result.now cells count marked) c.unmarked.ensures

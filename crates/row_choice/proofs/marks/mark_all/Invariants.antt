@@ -8,4 +8,5 @@ use Rattle.row_choice.proofs.marks.mark_all.Given as goal
 -- a row is left out where it is marked, or a word of the rest leaves it out
 abbrev pub invariant-loop-word : goal.invariant-loop-word
 invariant-loop-word l = (p : ℕ) → p < length l.marks →
-    list_any (leaves_out p) (map int_cell l.words) ≡ (slice_index_or l.marks p false || list_any (leaves_out p) (map int_cell (drop l.word-index l.words)))
+    list_any (leaves_out p) (map int_cell l.words)
+    ≡ (slice_index_or l.marks p false || list_any (leaves_out p) (map int_cell (drop l.word-index l.words)))

@@ -5,4 +5,5 @@ use Rattle.row_choice.proofs.places.named_rows.Given as goal
 
 -- the rows so far, and those that the rest names
 abbrev pub invariant-loop-word : goal.invariant-loop-word
-invariant-loop-word l = named_rows l.rows (map int_cell l.words) ≡ l.out.items ++ named_rows l.rows (map int_cell (drop l.word-index l.words))
+invariant-loop-word l = named_rows l.rows (map int_cell l.words) ≡ l.out.items
+    ++ named_rows l.rows (map int_cell (drop l.word-index l.words))

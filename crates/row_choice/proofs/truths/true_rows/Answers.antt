@@ -19,5 +19,6 @@ loop-p-preserved c =
 pub returns : goal.returns
 returns c =
     let test : ℕ → Bool = λ p. is_true (cell_at (map lgl_cell c.args.words.now) p) in
-    let all : c.loop-p.p ≡ length (map lgl_cell c.args.words.now) = omega (arith, length-map c.args.words.now lgl_cell) in
+    let all : c.loop-p.p ≡ length (map lgl_cell c.args.words.now) =
+    omega (arith, length-map c.args.words.now lgl_cell) in
     c.loop-p.invariant ∙ ap (rows_where test) all

@@ -12,4 +12,5 @@ pub returns-then-len-eq0 : goal.returns-then-len-eq0
 returns-then-len-eq0 c =
     sym
     (scan_has_name c.args.number c.args.names.now.entries c.len.ensures.unique
-    ∙ ap (λ es. list_any (λ v. is_table c.args.number (plain_bound v)) (values_of es)) (nothing c.args.names.now.entries (sym c.len.ensures.len ∙ c.if-len-eq0.true)))
+    ∙ ap (λ es. list_any (λ v. is_table c.args.number (plain_bound v)) (values_of es))
+    (nothing c.args.names.now.entries (sym c.len.ensures.len ∙ c.if-len-eq0.true)))

@@ -10,4 +10,5 @@ abbrev pub invariant-loop-bound : goal.invariant-loop-bound
 invariant-loop-bound l =
     (goal.iterator-loop-bound).can_next l.bound-iterator
     × (goal.iterator-loop-bound).is_finite l.bound-iterator
-    × (list_any (λ v. is_table l.number (plain_bound v)) (values l.names) ≡ list_any (λ v. is_table l.number (plain_bound v)) l.bound-iterator)
+    × (list_any (λ v. is_table l.number (plain_bound v)) (values l.names)
+    ≡ list_any (λ v. is_table l.number (plain_bound v)) l.bound-iterator)

@@ -27,4 +27,5 @@ returns-clause-winner g c =
     let typed = typed_words (has_rank t) g.A.Word.cell g.met.A.Ranked.ranked c.args.words.now in
     let P : ℕ → Type 0 = λ n. IsBest (beats c.args.side t) cells n c.loop-p.best in
     let all : c.loop-p.p ≡ length cells = omega (arith, length-map c.args.words.now g.A.Word.cell) in
-    found (has_rank t) (beats c.args.side t) (picks c.args.side t) cells typed c.loop-p.best (subst P all c.loop-p.invariant.1)
+    found (has_rank t) (beats c.args.side t) (picks c.args.side t) cells typed c.loop-p.best
+    (subst P all c.loop-p.invariant.1)

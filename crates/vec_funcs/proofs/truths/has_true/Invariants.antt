@@ -6,4 +6,5 @@ use Rattle.vec_funcs.proofs.truths.has_true.Given as goal
 
 -- the words so far are other ones
 abbrev pub invariant-loop-word : goal.invariant-loop-word
-invariant-loop-word l = list_any is_true (map lgl_cell l.words) ≡ list_any is_true (map lgl_cell (drop l.word-index l.words))
+invariant-loop-word l = list_any is_true (map lgl_cell l.words)
+    ≡ list_any is_true (map lgl_cell (drop l.word-index l.words))

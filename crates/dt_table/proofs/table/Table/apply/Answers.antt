@@ -10,11 +10,13 @@ change_columns-requires-clause-width g c = cols_within _ _ (rw (← c.self.view_
 -- each part of the table is as the change makes it
 pub invariant_of-self : goal.invariant_of-self
 invariant_of-self g c =
-    IsTable-changed _ _ _ c.self.invariant (rw (← c.self.view_is, ← c.ch.view_is) at c.requires.fits) c.width.ensures.frame (record {
+    IsTable-changed _ _ _ c.self.invariant (rw (← c.self.view_is, ← c.ch.view_is) at c.requires.fits)
+    c.width.ensures.frame (record {
       names = c.change_columns.ensures.names;
       vectors = c.change_columns.ensures.vectors;
       rows = c.change_columns.ensures.rows;
       key = c.cut_key.ensures ∙ ap (λ ps. key_changed (parts_seen ps) c.self.inside.key.items) c.deref.ensures.value;
-      indices = c.cut_indices.ensures ∙ ap (λ ps. indices_changed (parts_seen ps) c.self.inside.indices.items) c.deref-2.ensures.value;
+      indices = c.cut_indices.ensures ∙ ap (λ ps. indices_changed (parts_seen ps) c.self.inside.indices.items)
+          c.deref-2.ensures.value;
       slots = refl;
     })

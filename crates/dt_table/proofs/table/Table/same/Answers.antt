@@ -11,4 +11,5 @@ invariant_of-result g c =
     c.in_ok-frame.ensures.rows
     (c.in_ok-own_key.ensures.items ∙ c.deref-2.ensures.value)
     (c.in_ok-indices.ensures ∙ c.deref-3.ensures.value)
-    (let wide = same_width c.self.inside.frame.columns c.in_ok-frame.frame.columns c.in_ok-frame.ensures.ok in let room = c.self.invariant.width in let named = c.self.invariant.named in omega arith)
+    (let wide = same_width c.self.inside.frame.columns c.in_ok-frame.frame.columns c.in_ok-frame.ensures.ok in
+    let room = c.self.invariant.width in let named = c.self.invariant.named in omega arith)

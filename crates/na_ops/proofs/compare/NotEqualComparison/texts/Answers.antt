@@ -11,4 +11,5 @@ not-is_eq Equal = refl
 not-is_eq Greater = refl
 
 pub returns : goal.returns
-returns c = c.ne.ensures ∙ ap not (texts_ties c.args.x.now c.args.y.now) ∙ not-is_eq (slice_cmp nat_cmp c.args.x.now c.args.y.now)
+returns c = c.ne.ensures ∙ ap not (texts_ties c.args.x.now c.args.y.now)
+    ∙ not-is_eq (slice_cmp nat_cmp c.args.x.now c.args.y.now)

@@ -14,4 +14,5 @@ invariant_of-self c =
 -- what stood there is given back
 pub returns-clause-gone : goal.returns-clause-gone
 returns-clause-gone c =
-    rw (← c.self.view_is) (gone_at c.self.inside.columns.items c.args.c c.index_mut.result.now c.replace.result (search rules) c.index_mut.ensures.value c.replace.ensures.value)
+    rw (← c.self.view_is) (gone_at c.self.inside.columns.items c.args.c c.index_mut.result.now c.replace.result
+    (search rules) c.index_mut.ensures.value c.replace.ensures.value)

@@ -19,5 +19,6 @@ returns-in-Some-Table-clause-found c =
 -- it is bound to a vector
 pub returns-in-Some-Vector-clause-found : goal.returns-in-Some-Vector-clause-found
 returns-in-Some-Vector-clause-found c =
-    looked_at _ _ (Some (Vector c.in-Some-Vector.column)) (ap Some (sym c.in-Some-Vector.field-0-is) ∙ c.in-Some-Vector.ensures)
+    looked_at _ _ (Some (Vector c.in-Some-Vector.column)) (ap Some (sym c.in-Some-Vector.field-0-is)
+    ∙ c.in-Some-Vector.ensures)
     ∙ ap (λ h. get (names_of h.held.bounds) c.args.name.now) c.self.view_is

@@ -25,28 +25,33 @@ returns-in-None-clause-state c =
 
 pub returns-in-None-clause-answer : goal.returns-in-None-clause-answer
 returns-in-None-clause-answer c =
-    ap remove_answer (looked_at _ _ None c.in-None.ensures.old ∙ ap (λ h. get (names_of h.held.bounds) c.args.name.now) c.self.view_is)
+    ap remove_answer (looked_at _ _ None c.in-None.ensures.old
+    ∙ ap (λ h. get (names_of h.held.bounds) c.args.name.now) c.self.view_is)
 
 pub returns-in-None-clause-refused : goal.returns-in-None-clause-refused
 returns-in-None-clause-refused c =
     returns-in-None-clause-state c
-    ∙ removed_absent _ c.args.name.now (sym (looked_at _ _ None c.in-None.ensures.old ∙ ap (λ h. get (names_of h.held.bounds) c.args.name.now) c.self.view_is))
+    ∙ removed_absent _ c.args.name.now (sym (looked_at _ _ None c.in-None.ensures.old
+    ∙ ap (λ h. get (names_of h.held.bounds) c.args.name.now) c.self.view_is))
 
 -- ---- the name was bound
 
 pub invariant_of-self-in-Some : goal.invariant_of-self-in-Some
 invariant_of-self-in-Some c =
     unbound_heap _ c.args.name.now _ _ c.in-Some.ensures.names
-    (c.sweep.ensures.slots ∙ ap (swept_slots (bounds_of c.take_name.new.names.entries) c.self.inside.tables.slots) c.in-Some.ensures.old)
+    (c.sweep.ensures.slots ∙ ap (swept_slots (bounds_of c.take_name.new.names.entries) c.self.inside.tables.slots)
+    c.in-Some.ensures.old)
     c.self.invariant.sound c.self.invariant.named
 
 pub returns-in-Some-clause-state : goal.returns-in-Some-clause-state
 returns-in-Some-clause-state c =
     unbound_state _ c.args.name.now _ _ c.in-Some.ensures.names
-    (c.sweep.ensures.slots ∙ ap (swept_slots (bounds_of c.take_name.new.names.entries) c.self.inside.tables.slots) c.in-Some.ensures.old)
+    (c.sweep.ensures.slots ∙ ap (swept_slots (bounds_of c.take_name.new.names.entries) c.self.inside.tables.slots)
+    c.in-Some.ensures.old)
     c.self.invariant.sound
     ∙ ap (λ h. model.removed (state_of h) c.args.name.now) c.self.view_is
 
 pub returns-in-Some-clause-answer : goal.returns-in-Some-clause-answer
 returns-in-Some-clause-answer c =
-    ap remove_answer (looked_at _ _ (Some c.in-Some.old) c.in-Some.ensures.old ∙ ap (λ h. get (names_of h.held.bounds) c.args.name.now) c.self.view_is)
+    ap remove_answer (looked_at _ _ (Some c.in-Some.old) c.in-Some.ensures.old
+    ∙ ap (λ h. get (names_of h.held.bounds) c.args.name.now) c.self.view_is)

@@ -1,0 +1,3 @@
+pub mod TextFacts
+pub mod Values
+pub mod Written

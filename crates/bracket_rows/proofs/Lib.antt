@@ -1,0 +1,3 @@
+pub mod WhatIsMet
+pub mod Plain
+pub mod Written

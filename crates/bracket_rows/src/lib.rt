@@ -1,0 +1,28 @@
+//! The rows that the i of a bracket finds, and what an expression meets over them.
+//!
+//! - `rows_found` values i over the table's own columns and chooses rows by it: their places in the
+//!   table (`Found`), whether one is named that is not there, and the warnings of i.
+//! - `surround` makes what j and assignments look at (`Surroundings`); its `scope` lends it to
+//!   `expr_eval`.
+//! - `checked_value` gives a value whose type is looked at first.
+//!
+//! It stands on `expr_eval` for types and values, on `row_choice` for rows, on `dt_table`, and on
+//! no crate of brackets. It promises that the rows are those of the definition `rows_found`, over
+//! the plain reading of the table, or the fault is its first one, and that what an expression meets
+//! is `rows_env` of the rows. Want of memory is the one other answer, and no fault blames a file. A
+//! join as i is not served, and is told as `unbuilt` where the definition tells it.
+//!
+//! The vector of a bare name is read as i without a copy. Without i the table's own columns are
+//! met, and only the places of the rows are made anew; with one the rows are gathered once, where
+//! they are asked for.
+#![tactic(auto)]
+
+mod around;
+mod forms;
+mod found;
+mod rows;
+mod scopes;
+
+pub use around::{Surroundings, found_columns, surround};
+pub use found::Found;
+pub use rows::{checked_value, rows_found};

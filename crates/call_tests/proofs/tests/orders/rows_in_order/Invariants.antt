@@ -1,4 +1,0 @@
-use Rattle.call_tests.proofs.tests.orders.rows_in_order.Given as goal
-
-abbrev pub ghosts-all : goal.ghosts-all
-ghosts-all g a = record { name = a.blank.name; parts = a.blank.parts }

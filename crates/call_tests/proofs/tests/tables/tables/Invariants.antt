@@ -1,4 +1,0 @@
-use Rattle.call_tests.proofs.tests.tables.tables.Given as goal
-
-abbrev pub ghosts-making : goal.ghosts-making
-ghosts-making g a = record { name = a.blank.name; parts = a.blank.parts }

@@ -1,7 +1,0 @@
-use Rattle.std.proofs.Common.{sym, ap, ◌∙◌}
-use Rattle.run_model.specs.TreeView.{tree_of, brackets_of}
-use Rattle.dt_script.proofs.StepViews.{head_of_other}
-use Rattle.dt_script.proofs.brackets.head_of.Goals as goal
-
-pub returns-in_default : goal.returns-in_default
-returns-in_default c = ap (λ bs. record { tree = tree_of c.args.operand; brackets = brackets_of bs }) c.new.ensures ∙ sym (head_of_other c.args.operand c.in_default.not-Query)

@@ -1,7 +1,0 @@
-use Rattle.std.proofs.Common.{◌≡◌, map, drop}
-use Rattle.run_model.specs.TreeView.{tail_of}
-use Rattle.dt_script.specs.Steps.{names_behind}
-use Rattle.dt_script.proofs.formulas.tail_names.Given as goal
-
-abbrev pub invariant-loop-tail : goal.invariant-loop-tail
-invariant-loop-tail l = names_behind l.fn.names (map tail_of l.rest) ≡ names_behind l.names (map tail_of (drop l.tail-index l.rest))

@@ -1,6 +1,0 @@
-use Rattle.std.proofs.Common.{sym, ◌∙◌}
-use Rattle.dt_script.proofs.FrameViews.{demand-last_of}
-use Rattle.dt_script.proofs.operators.demand.Goals as goal
-
-pub returns-in-Some : goal.returns-in-Some
-returns-in-Some c = c.frame_demand.ensures ∙ sym (demand-last_of c.args.frames.now c.in-Some.frame.now (sym c.in-Some.ensures.value))

@@ -1,9 +1,0 @@
-pub mod Between
-pub mod Bindings
-pub mod Ends
-pub mod Given
-pub mod NextOne
-pub mod Plain
-pub mod Refused
-pub mod Touched
-pub mod Vectors

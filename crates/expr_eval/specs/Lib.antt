@@ -1,5 +1,0 @@
-pub mod Ranges
-pub mod Refusals
-pub mod Scope
-pub mod Slots
-pub mod Touches

@@ -1,0 +1,4 @@
+pub mod Bindings
+pub mod Ends
+pub mod NextOne
+pub mod Plain

@@ -1,0 +1,6 @@
+use Rattle.std.proofs.Common.{sym}
+use Rattle.script_frames.proofs.Sums.{bare_name_other}
+use Rattle.script_brackets.proofs.formulas.bare_name.Goals as goal
+
+pub returns-in_default : goal.returns-in_default
+returns-in_default c = sym (bare_name_other c.args.operand.now c.in_default.not-Name)

@@ -1,0 +1,4 @@
+pub mod FrameViews
+pub mod StepViews
+pub mod Sums
+pub mod EndViews

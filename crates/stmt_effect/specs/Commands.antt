@@ -1,0 +1,25 @@
+-- What commands do, and what a value that prints does.
+--   library_named args    what `library` does
+--   removed_by s args     what `rm` does
+--   value_printed s g     a value prints
+use Rattle.std.specs.Prelude.{List, Result}
+use Rattle.std.specs.FinMap as finite
+use Rattle.dt_base.specs.declared.fault.Fault.{Fault}
+use Rattle.dt_model.specs.State.{State}
+use Rattle.func_table.specs.declared.formal.Formal.TheVariants as formal
+use Rattle.session_model.specs.Calls.{argument, bare_name, known_package, removed_name}
+use Rattle.session_model.specs.Effect.{Effect, prints}
+use Rattle.session_model.specs.Meanings.{ArgMeaning}
+use Rattle.session_model.specs.Value.{Given, printed_value}
+use Rattle.vector_model.specs.Then.{then_do}
+
+abbrev pub library_named : List ArgMeaning → Result Effect Fault
+library_named args = then_do (argument args 0 formal.Package) (λ a. known_package a.form)
+
+abbrev pub removed_by : State → List ArgMeaning → Result Effect Fault
+removed_by s args =
+    then_do (argument args 0 formal.Name) (λ a.
+    then_do (bare_name a.form) (λ name. removed_name name (finite.get s.names name)))
+
+abbrev pub value_printed : State → Given → Effect
+value_printed s g = prints (printed_value s g.value) g.warns

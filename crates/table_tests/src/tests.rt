@@ -1,0 +1,5 @@
+mod columns;
+mod names;
+mod orders;
+mod printing;
+mod tables;
