@@ -4,7 +4,8 @@ ghost use Rattle.session_model.specs.Meaning.{arg_meaning};
 ghost use Rattle.session_model.specs.Binding.{free_count, unnamed_count, place_of, places};
 ghost use Rattle.session_model.specs.Binding.{is_formal, is_bad, names_fine, missing_word};
 ghost use Rattle.session_model.specs.Binding.{is_lacking, all_there, word_in, counted};
-ghost use Rattle.session_model.specs.Binding.{bound_to_formals, bound_unnamed, bound};
+ghost use Rattle.session_model.specs.Binding.{bound_by_name, bound_to_formals, bound_unnamed};
+ghost use Rattle.session_model.specs.Binding.{bound, bound_with_more};
 ghost use Rattle.eval_fail.specs.Answers.{Answers, IsOwn};
 
 use crate::places::{is_free_formal, is_unnamed, next, place, place_named};
@@ -149,13 +150,34 @@ fn bind_unnamed(alloc: Global, f: Func, args: &[Arg]) -> Result<(), EvalFail>
     check_count(alloc, f, args.is_empty())
 }
 
+/// To formals, with any number of arguments behind them.
+fn bind_with_more(alloc: Global, f: Func, args: &[Arg]) -> Result<(), EvalFail>
+    ensures answer { Answers (bound_with_more f (names_in (map arg_meaning args.now))) result }
+    ensures own { IfErr result IsOwn }
+{
+    let ps = formals(f);
+    check_names(alloc, args, ps)?;
+    check_there(alloc, f, args, ps)
+}
+
+/// To formals by their names alone.
+fn bind_by_name(alloc: Global, f: Func, args: &[Arg]) -> Result<(), EvalFail>
+    ensures answer { Answers (bound_by_name f (names_in (map arg_meaning args.now))) result }
+    ensures own { IfErr result IsOwn }
+{
+    check_names(alloc, args, formals(f))?;
+    check_count(alloc, f, count_unnamed(args) > 0 || args.is_empty())
+}
+
 /// Nothing, or the first fault of binding these arguments to a function's formals.
 ///
 /// To formals: a name that is unknown or bound twice (E19 with the name, in the order written),
 /// then a needed formal without an argument (E19 with its name, or the function's where the formal
 /// has none), then too many arguments (E19 with the function's name). Without names: the first
 /// name (E19 with it), then no argument at all (E19 with the function's name). As columns: no
-/// argument at all. dtq's own rule, docs/LANGUAGE.md, section "Calls".
+/// argument at all. With more behind the formals there are never too many. By name alone: a name
+/// that is unknown or bound twice, then an argument without a name, or none at all (E19 with the
+/// function's name). dtq's own rule, docs/LANGUAGE.md, section "Calls".
 pub fn bind(alloc: Global, f: Func, args: &[Arg]) -> Result<(), EvalFail>
     ensures answer { Answers (bound f (names_in (map arg_meaning args.now))) result }
     ensures own { IfErr result IsOwn }
@@ -164,5 +186,7 @@ pub fn bind(alloc: Global, f: Func, args: &[Arg]) -> Result<(), EvalFail>
         Arity::Fixed => bind_formals(alloc, f, args),
         Arity::Columns => check_count(alloc, f, args.is_empty()),
         Arity::Unnamed => bind_unnamed(alloc, f, args),
+        Arity::More => bind_with_more(alloc, f, args),
+        Arity::Named => bind_by_name(alloc, f, args),
     }
 }

@@ -4,7 +4,8 @@ ghost use Rattle.dt_base.specs.declared.limits.TheConstants.{MAX_ROWS};
 ghost use Rattle.dt_base.specs.Warns.{no_warns};
 ghost use Rattle.dt_model.specs.Coercion.{coercion_warns};
 ghost use Rattle.na_vector.specs.Frame.{column_at, vectors_of};
-ghost use Rattle.dt_table.specs.Change.{Add, FitsPart, FitsTable, part_seen, parts_seen};
+ghost use Rattle.dt_table.specs.Change.{Add, FitsPart, FitsTable, part_names, part_seen};
+ghost use Rattle.dt_table.specs.Change.{parts_seen};
 ghost use Rattle.dt_table.specs.Plain.{plain, plain_changed};
 ghost use Rattle.dt_table.specs.Table.{IsFilled};
 ghost use Rattle.dt_model.specs.Table.{place_of};
@@ -261,13 +262,12 @@ fn parts_of<L: Ledger>(
 }
 
 /// The change of a table that targets make, at these rows or at all, with the warnings of the
-/// values;
-/// or the first fault. Rows are in range, and no target's name is empty. The change fits the table.
+/// values; or the first fault. Rows are in range, and no target's name is empty. The change fits
+/// the table, and its parts name the targets' columns, in their order.
 ///
 /// The faults of targets come in their order: a name that stood before, a deletion of what is no
 /// column, a deletion where rows are chosen, a length that is neither 1 nor the number of rows.
-/// Then
-/// there are too many columns, or too many cells.
+/// Then there are too many columns, or too many cells.
 pub fn change_of<L: Ledger>(
     alloc: Global,
     t: &Table,
@@ -284,6 +284,8 @@ pub fn change_of<L: Ledger>(
           warns =
               r.1;
         })) }
+    ensures names { IfOk result (λ r. part_names t.now.names r.0.parts
+        ≡ names_of (targets_seen targets.items)) }
     ensures fault { IfErr result (λ e. IsFault t.now.slots e
         (assign_fault t.now.names t.now.frame.rows t.now.slots (rows_seen rows.entry)
         (targets_seen targets.items))) }

@@ -5,7 +5,7 @@ ghost use Rattle.assign_ref.specs.Seen.{rows_seen, targets_seen};
 ghost use Rattle.assign_ref.specs.Values.{AreRows};
 ghost use Rattle.assign_sides.specs.Answers.{IsTold};
 ghost use Rattle.assign_sides.specs.Seen.{assigned_seen, values_seen};
-ghost use Rattle.dt_table.specs.Change.{FitsTable};
+ghost use Rattle.dt_table.specs.Change.{FitsTable, part_names};
 ghost use Rattle.dt_table.specs.Plain.{plain};
 ghost use Rattle.dt_table.specs.Table.{IsFilled};
 ghost use Rattle.eval_fail.specs.Answers.{AnswersAs, IsOwn, IsStop};
@@ -57,6 +57,8 @@ fn changed<L: Ledger>(
     requires filled { All IsFilled (names_of (targets_seen targets.items)) }
     ensures answer { AnswersAs (assigned_seen t.now) (told_assigned names.now t.now.slots
         (assigned (plain t.now) (rows_seen rows.entry) (targets_seen targets.items))) result }
+    ensures names { IfOk result (λ a. part_names t.now.names a.change.parts
+        ≡ names_of (targets_seen targets.items)) }
     ensures fits { IfOk result (λ a. FitsTable t.now a.change) }
     ensures own { IfErr result IsOwn }
 {
@@ -74,7 +76,8 @@ fn changed<L: Ledger>(
 /// values as names; then, name by name, E12 for one that stood before, E03 for one that deletes and
 /// is no column's, E19 with `NULL` for one that deletes where rows are given, E05 for a value whose
 /// length is neither 1 nor the number of rows; then E09 for more columns than slots, and E08 for
-/// too many cells. The table is only read. The manual's page `:=`; docs/LANGUAGE.md, section
+/// too many cells. The change names the columns of these names, in their order. The table is only
+/// read. The manual's page `:=`; docs/LANGUAGE.md, section
 /// "Assignment".
 pub fn assigned_by<L: Ledger>(
     alloc: Global,
@@ -87,6 +90,7 @@ pub fn assigned_by<L: Ledger>(
     requires { AreRows t.now.frame.rows (rows_seen rows) }
     ensures answer { AnswersAs (assigned_seen t.now)
         (assigned_by (plain t.now) (rows_seen rows.entry) names.now (values_seen values)) result }
+    ensures names { IfOk result (λ a. part_names t.now.names a.change.parts ≡ names.now) }
     ensures fits { IfOk result (λ a. FitsTable t.now a.change) }
     ensures own { IfErr result IsOwn }
 {

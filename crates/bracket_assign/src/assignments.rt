@@ -4,7 +4,7 @@ ghost use Rattle.bracket_assign.specs.Answers.{assigned_seen};
 ghost use Rattle.bracket_assign.specs.Literals.{is_lone_literal, nothing};
 ghost use Rattle.bracket_rows.specs.Found.{found_of, is_chosen, AreFound};
 ghost use Rattle.dt_base.specs.Warns.{both_warns};
-ghost use Rattle.dt_table.specs.Change.{FitsTable};
+ghost use Rattle.dt_table.specs.Change.{FitsTable, part_names};
 ghost use Rattle.dt_table.specs.Plain.{plain};
 ghost use Rattle.eval_fail.specs.Answers.{AnswersAs, IsOwn};
 ghost use Rattle.expr_scope.specs.Scope.{IsScope, env_of};
@@ -167,6 +167,7 @@ fn changed<L: Ledger>(
     ensures answer { AnswersAs (table_seen x.now) (assigned_by (plain x.now)
         (target_rows (is_chosen found.now) (found_of x.now found.now).places) names.now
         (values_seen values)) result }
+    ensures names { IfOk result (λ a. part_names x.now.names a.change.parts ≡ names.now) }
     ensures fits { IfOk result (λ a. FitsTable x.now a.change) }
     ensures own { IfErr result IsOwn }
 {

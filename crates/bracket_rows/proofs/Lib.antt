@@ -1,3 +1,5 @@
 pub mod WhatIsMet
+pub mod InOrder
+pub mod Kept
 pub mod Plain
 pub mod Written

@@ -1,24 +1,23 @@
 -- A table beside its plain reading: its columns with their names, and chosen rows.
 use Rattle.std.proofs.Common.{◌≡◌, ◌+◌, ◌++◌, ℕ, List, [], ◌∷◌, length, map, All, refl, sym, ap, ◌∙◌, arith}
 use Rattle.std.specs.List.{range_with_len}
-use Rattle.std.proofs.lemmas.List.{append_assoc, length-append, length-map}
+use Rattle.std.proofs.lemmas.List.{append_assoc, length-append}
 use Rattle.std.proofs.lemmas.Simd.{map-map}
 use Rattle.std.proofs.lemmas.List.Elements.{All-head, All-tail}
 use Rattle.std.proofs.lemmas.List.FromFn.{fill_by_all}
 use Rattle.dt_base.specs.declared.cell.Cell.{Cell}
 use Rattle.dt_base.specs.declared.cell.Cell.TheVariants as is
 use Rattle.dt_model.specs.Table.{column_of, heads_of, row_at, rows_of}
-use Rattle.dt_model.specs.Vector.{Vector, cell_at, gathered}
-use Rattle.dt_table.proofs.Plain.{plain_names, plain_rows, vectors_count}
+use Rattle.dt_model.specs.Vector.{Vector, cell_at}
+use Rattle.dt_table.proofs.Plain.{plain_names, plain_rows}
 use Rattle.dt_table.specs.Plain.{plain}
 use Rattle.dt_table.specs.Table.{TableSeen, IsTable}
 use Rattle.expr_scope.specs.Scope.{columns_of}
 use Rattle.row_model.specs.Rows.{Places, all_rows}
-use Rattle.expr_model.specs.Surroundings.{Vars, columns_at, columns_in, in_rows, vectors_from}
+use Rattle.expr_model.specs.Surroundings.{Vars, columns_in, in_rows, vectors_from}
 use Rattle.na_vector.specs.Column.{Seen}
-use Rattle.na_vector.specs.Frame.{FrameSeen, HasLength, vectors_of}
+use Rattle.na_vector.specs.Frame.{HasLength, vectors_of}
 use Rattle.session_model.specs.Found.{whole_rows}
-use Rattle.session_model.specs.Value.{new_table}
 
 -- a row's cell at the place of a column is the column's cell in that row
 row_cell : (done rest : List Vector) (v : Vector) (r : ℕ) → cell_at (row_at (done ++ v ∷ rest) r) (length done)
@@ -42,7 +41,7 @@ vector_read : (v : Vector) (cells : List Cell) → cells ≡ v.cells → record 
 vector_read v cells e = λ j. record { kind = v.kind; cells = e j }
 
 -- the columns that are read behind others are these columns
-vectors_read : (names : List (List ℕ)) (done : List Vector) (columns : List Seen) (n : ℕ) → length names
+pub vectors_read : (names : List (List ℕ)) (done : List Vector) (columns : List Seen) (n : ℕ) → length names
     ≡ length columns → All (HasLength n) columns → vectors_from (length done) (heads_of names (vectors_of columns))
     (rows_of n (done ++ vectors_of columns)) ≡ vectors_of columns
 vectors_read [] done [] n h a = refl

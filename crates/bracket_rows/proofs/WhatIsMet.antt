@@ -1,6 +1,5 @@
 -- What an expression meets over the rows that were found.
-use Rattle.std.proofs.Common.{◌≡◌, ◌∙◌, sym, ap, ℕ, List, length, map, Bool, Option, None, Some, Result, Ok, Err, IfOk}
-use Rattle.std.proofs.Common.{refl}
+use Rattle.std.proofs.Common.{◌≡◌, ◌∙◌, sym, ap, ℕ, length, map, Bool, Option, None, Some, Result, Ok, Err, IfOk}
 use Rattle.std.specs.Global.{Vec}
 use Rattle.std.proofs.lemmas.List.{length-map}
 use Rattle.std.proofs.lemmas.List.FromFn.{length-map-range_with_len}
@@ -21,27 +20,27 @@ use Rattle.session_model.specs.Found.{rows_env}
 
 -- ---- The rows that were found
 
-by_names : (t : TableSeen) (o : Option Places) (past : Bool) (warns : Warns) → IsTable t
-    → (found_by (plain t) o past warns).columns.names ≡ t.names
-by_names t None past warns h = plain_names t h
-by_names t (Some places) past warns h = plain_names t h
+by_names : (t : TableSeen) (o : Option Places) (past logical : Bool) (warns : Warns) → IsTable t
+    → (found_by (plain t) o past logical warns).columns.names ≡ t.names
+by_names t None past logical warns h = plain_names t h
+by_names t (Some places) past logical warns h = plain_names t h
 
 -- their columns have the table's names
 pub found_names : (t : TableSeen) (f : Found) → IsTable t → (found_of t f).columns.names ≡ t.names
-found_names t f h = by_names t (places_in f.positions) f.past f.warns h
+found_names t f h = by_names t (places_in f.positions) f.past f.logical f.warns h
 
 own_count : (t : TableSeen) → IsTable t → length (columns_in (plain t)).vectors ≡ length t.names
 own_count t h = ap length (plain_vectors t h) ∙ (vectors_count t.frame.columns ∙ sym h.named)
 
-by_count : (t : TableSeen) (o : Option Places) (past : Bool) (warns : Warns) → IsTable t
-    → length (found_by (plain t) o past warns).columns.vectors ≡ length t.names
-by_count t None past warns h = own_count t h
-by_count t (Some places) past warns h =
+by_count : (t : TableSeen) (o : Option Places) (past logical : Bool) (warns : Warns) → IsTable t
+    → length (found_by (plain t) o past logical warns).columns.vectors ≡ length t.names
+by_count t None past logical warns h = own_count t h
+by_count t (Some places) past logical warns h =
     length-map (columns_in (plain t)).vectors (λ (v : Vector). gathered v places) ∙ own_count t h
 
 -- as many as names
 pub found_count : (t : TableSeen) (f : Found) → IsTable t → length (found_of t f).columns.vectors ≡ length t.names
-found_count t f h = by_count t (places_in f.positions) f.past f.warns h
+found_count t f h = by_count t (places_in f.positions) f.past f.logical f.warns h
 
 -- without i they are the table's own
 pub own_vectors : (t : TableSeen) → IsTable t → vectors_of t.frame.columns ≡ (columns_in (plain t)).vectors
@@ -69,7 +68,7 @@ gathered_found t f v places own (Ok g) h e p o k =
     k
     ∙ ((λ j. map (λ (c : Vector). gathered c (p j)) (vectors_of (o j).columns))
     ∙ (chosen_vectors t v.items h
-    ∙ ap (λ (q : Option (Vec (Option ℕ))). (found_by (plain t) (places_in q) f.past f.warns).columns.vectors) (sym e)))
+    ∙ ap (λ (q : Option (Vec (Option ℕ))). (found_by (plain t) (places_in q) f.past f.logical f.warns).columns.vectors) (sym e)))
 gathered_found t f v places own (Err x) h e p o k = tt
 
 pub ruleset founds = (own_vectors, chosen_vectors, own_rows, own_rows-count)

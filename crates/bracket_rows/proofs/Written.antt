@@ -15,7 +15,7 @@ use Rattle.dt_base.specs.declared.cell.Cell.TheVariants as is
 use Rattle.bracket_rows.specs.Forms.{not_name_in}
 use Rattle.expr_model.specs.Surroundings.{Env}
 use Rattle.func_table.specs.Special.{special_of}
-use Rattle.session_model.specs.Form.{Form, Literal, Negative, NullWord, InfWord, BareName, NotName, Other, name_in}
+use Rattle.session_model.specs.Form.{Form, Literal, Negative, NullWord, InfWord, BareName, NotName, name_in}
 use Rattle.session_model.specs.Meaning.{chain_form, compares, expr_step, meaning, minus_form, not_form, tail_meaning}
 use Rattle.session_model.specs.Meanings.{Meaning, TailMeaning}
 use Rattle.session_model.specs.Expression.{checked_value}

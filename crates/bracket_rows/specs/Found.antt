@@ -4,11 +4,14 @@
 --   AreRows t ps      the places are rows of the table, within the limit; where it has no columns there
 --                     are none
 --   AreFound t f      the places that i chose are rows of the table
+--   StandAsBefore ps  the places are rows in the order of the table, each once, and no row of NA
+--   KeepsOrder f      a logical i lets its rows stand as they stood
 --   met_frame t s     the columns that an expression meets: the table's own, or those that are gathered
 --   met_places f s    where their rows stand
 --   IsAround t f s    these are the rows that were found
-use Rattle.std.specs.Prelude.{◌≡◌, ◌≤◌, ℕ, [], Bool, All, IfSome, Option, None, Some, length, is_some}
+use Rattle.std.specs.Prelude.{◌≡◌, ◌≤◌, ℕ, List, [], Bool, true, All, IfSome, Option, None, Some, length, is_some, map}
 use Rattle.std.specs.Global.{Vec}
+use Rattle.std.specs.List.Sorted.{IsStrictlyIncreasing}
 use Rattle.dt_base.specs.declared.limits.TheConstants.{MAX_ROWS}
 use Rattle.dt_base.specs.declared.warns.Warns.{Warns}
 use Rattle.dt_model.specs.Table.{PlainTable}
@@ -23,10 +26,15 @@ use Rattle.row_model.specs.Rows.{Places, all_rows}
 use Rattle.session_model.specs.Found as model
 
 -- without i all rows of the table
-abbrev pub found_by : PlainTable → Option Places → Bool → Warns → model.Found
-found_by t None past warns =
-    record { columns = columns_in t; places = all_rows (length t.rows); past = past; warns = warns }
-found_by t (Some places) past warns = model.found_at t places past warns
+abbrev pub found_by : PlainTable → Option Places → Bool → Bool → Warns → model.Found
+found_by t None past logical warns = record {
+  columns = columns_in t;
+  places = all_rows (length t.rows);
+  past = past;
+  logical = logical;
+  warns = warns;
+}
+found_by t (Some places) past logical warns = model.found_at t places past logical warns
 
 abbrev pub places_in : Option (Vec (Option ℕ)) → Option Places
 places_in None = None
@@ -34,7 +42,7 @@ places_in (Some v) = Some v.items
 
 -- the rows as the definitions speak of them
 abbrev pub found_of : TableSeen → Found → model.Found
-found_of t f = found_by (plain t) (places_in f.positions) f.past f.warns
+found_of t f = found_by (plain t) (places_in f.positions) f.past f.logical f.warns
 
 -- whether there is an i
 abbrev pub is_chosen : Found → Bool
@@ -49,6 +57,16 @@ pub record AreRows (t : TableSeen) (places : Places) : Type 0 where
 -- the places that i chose are rows of the table
 abbrev pub AreFound : TableSeen → Found → Type 0
 AreFound t f = IfSome f.positions (λ v. AreRows t v.items)
+
+-- rows in the order of the table, each once; none is a row of NA
+pub record StandAsBefore (places : Places) : Type 0 where
+  pub rows : List ℕ
+  pub same : places ≡ map Some rows
+  pub rise : IsStrictlyIncreasing rows
+
+-- a logical i lets its rows stand as they stood
+abbrev pub KeepsOrder : Found → Type 0
+KeepsOrder f = f.logical ≡ true → IfSome f.positions (λ v. StandAsBefore v.items)
 
 -- ---- What an expression meets
 

@@ -8,6 +8,8 @@ pub struct Found {
     pub positions: Option<Vec<Option<u32>>>,
     /// Whether i names a row that is not there.
     pub past: bool,
+    /// Whether i gave a logical vector, so that the rows stand in the order that they had.
+    pub logical: bool,
     /// The warnings of i.
     pub warns: Warns,
 }

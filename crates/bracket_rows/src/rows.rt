@@ -2,7 +2,7 @@ ghost use Rattle.std.specs.Prelude.{◌≡◌, IfOk, IfErr, true, false, None, S
 ghost use Rattle.std.specs.Prelude.{is_none, option_map};
 ghost use Rattle.std.specs.List.{list_any};
 ghost use Rattle.eval_fail.specs.Answers.{AnswersAs, IsOwn};
-ghost use Rattle.bracket_rows.specs.Found.{found_of, is_chosen, AreFound};
+ghost use Rattle.bracket_rows.specs.Found.{found_of, is_chosen, AreFound, KeepsOrder};
 ghost use Rattle.dt_base.specs.Warns.{no_warns};
 ghost use Rattle.dt_table.specs.Plain.{plain};
 ghost use Rattle.expr_scope.specs.Scope.{env_of, IsScope};
@@ -10,16 +10,18 @@ ghost use Rattle.func_table.specs.Special.{special_of};
 ghost use Rattle.na_vector.specs.Frame.{rows_with};
 ghost use Rattle.session_model.specs.Expression.{checked_value};
 ghost use Rattle.session_model.specs.Found.{i_variable, i_name, i_not_variable, i_not_name};
-ghost use Rattle.session_model.specs.Found.{i_value, of_columns, rows_by, rows_found};
+ghost use Rattle.session_model.specs.Found.{i_value, is_logical, of_columns, rows_by, rows_found};
+ghost use Rattle.session_model.specs.Found.{rows_of_i};
 ghost use Rattle.session_model.specs.Meaning.{meaning};
 ghost use Rattle.valued.specs.Valued.{valued_of};
 ghost use Rattle.vector_model.specs.Then.{then_do};
 
-use crate::forms::negated_name;
+use crate::forms::{negated_name, order_arguments};
 use crate::found::Found;
+use crate::ordered::ordered_rows;
 use crate::scopes::whole_scope;
 use arg_bind::bare_name;
-use dt_base::{Code, Steps, Warns};
+use dt_base::{Code, ColType, Steps, Warns};
 use dt_table::Table;
 use dt_tree::Expr;
 use eval_fail::{EvalFail, stop, stop_unbuilt};
@@ -65,6 +67,16 @@ fn names_no_row(positions: &[Option<u32>]) -> bool
     positions.iter().any(|p| p.is_none())
 }
 
+/// Whether the type is logical.
+fn is_logical(kind: ColType) -> bool
+    ensures { result ≡ is_logical kind }
+{
+    match kind {
+        ColType::Lgl => true,
+        ColType::Int | ColType::Chr => false,
+    }
+}
+
 /// The rows that a value of i chooses.
 #[tactic(auto, using(dt_table::proofs::Plain::counts))]
 fn rows_by<L: Ledger>(
@@ -78,6 +90,7 @@ fn rows_by<L: Ledger>(
         (rows_by (plain x.now) (record { vector = column.now.vector; warns = warns })) result }
     ensures rows { IfOk result (AreFound x.now) }
     ensures chosen { IfOk result (λ f. is_chosen f ≡ true) }
+    ensures order { IfOk result KeepsOrder }
     ensures own { IfErr result IsOwn }
 {
     let frame = x.frame();
@@ -86,6 +99,7 @@ fn rows_by<L: Ledger>(
     Ok(Found {
         positions: Some(of_columns(alloc, frame.width(), positions)),
         past,
+        logical: is_logical(column.kind()),
         warns,
     })
 }
@@ -104,6 +118,7 @@ fn valued_rows<V: Vars, L: Ledger>(
         result }
     ensures rows { IfOk result (AreFound x.now) }
     ensures chosen { IfOk result (λ f. is_chosen f ≡ true) }
+    ensures order { IfOk result KeepsOrder }
     ensures own { IfErr result IsOwn }
 {
     let value = checked_value(alloc, e, s, steps)?;
@@ -124,6 +139,7 @@ fn variable_rows<V: Vars, L: Ledger>(
         (then_do (i_variable name.now (V.bound vars.now name.now)) (rows_by (plain x.now))) result }
     ensures rows { IfOk result (AreFound x.now) }
     ensures chosen { IfOk result (λ f. is_chosen f ≡ true) }
+    ensures order { IfOk result KeepsOrder }
     ensures own { IfErr result IsOwn }
 {
     match vars.vector(name) {
@@ -151,6 +167,7 @@ fn name_rows<V: Vars, L: Ledger>(
         (rows_by (plain x.now))) result }
     ensures rows { IfOk result (AreFound x.now) }
     ensures chosen { IfOk result (λ f. is_chosen f ≡ true) }
+    ensures order { IfOk result KeepsOrder }
     ensures own { IfErr result IsOwn }
 {
     match special_named(name) {
@@ -178,6 +195,7 @@ fn not_variable_rows<V: Vars, L: Ledger>(
         (rows_by (plain x.now))) result }
     ensures rows { IfOk result (AreFound x.now) }
     ensures chosen { IfOk result (λ f. is_chosen f ≡ true) }
+    ensures order { IfOk result KeepsOrder }
     ensures own { IfErr result IsOwn }
 {
     match s.vars.table(name) {
@@ -201,6 +219,7 @@ fn not_name_rows<V: Vars, L: Ledger>(
         (rows_by (plain x.now))) result }
     ensures rows { IfOk result (AreFound x.now) }
     ensures chosen { IfOk result (λ f. is_chosen f ≡ true) }
+    ensures order { IfOk result KeepsOrder }
     ensures own { IfErr result IsOwn }
 {
     match special_named(name) {
@@ -223,6 +242,7 @@ fn rows_in<V: Vars, L: Ledger>(
         (then_do (i_value (meaning i.now) (env_of V.bound s.now)) (rows_by (plain x.now))) result }
     ensures rows { IfOk result (AreFound x.now) }
     ensures chosen { IfOk result (λ f. is_chosen f ≡ true) }
+    ensures order { IfOk result KeepsOrder }
     ensures own { IfErr result IsOwn }
 {
     if let Some(name) = bare_name(i) {
@@ -234,7 +254,29 @@ fn rows_in<V: Vars, L: Ledger>(
     valued_rows(alloc, i, x, s, steps)
 }
 
-/// The rows that i chooses of a table.
+/// The rows that an i by its value chooses of a table.
+fn rows_by_value<V: Vars, L: Ledger>(
+    alloc: Global,
+    i: &Expr,
+    x: &Table,
+    vars: &V,
+    steps: &mut Steps<L>,
+) -> Result<Found, EvalFail>
+    ensures answer { AnswersAs (found_of x.now)
+        (rows_of_i None (meaning i.now) (plain x.now) (V.bound vars.now)) result }
+    ensures rows { IfOk result (AreFound x.now) }
+    ensures chosen { IfOk result (λ f. is_chosen f ≡ true) }
+    ensures order { IfOk result KeepsOrder }
+    ensures own { IfErr result IsOwn }
+{
+    let all = all_rows(alloc, x.frame().rows())?;
+    let none = Frame::new(alloc);
+    let s = whole_scope(x, &all, &none, vars);
+    rows_in(alloc, i, x, &s, steps)
+}
+
+/// The rows that i finds of a table: the call of `order` gives all of them in an order, and any
+/// other i chooses rows by its value.
 fn rows_of_i<V: Vars, L: Ledger>(
     alloc: Global,
     i: &Expr,
@@ -246,34 +288,44 @@ fn rows_of_i<V: Vars, L: Ledger>(
         (rows_found (Some (meaning i.now)) (plain x.now) (V.bound vars.now)) result }
     ensures rows { IfOk result (AreFound x.now) }
     ensures chosen { IfOk result (λ f. is_chosen f ≡ true) }
+    ensures order { IfOk result KeepsOrder }
     ensures own { IfErr result IsOwn }
 {
-    let all = all_rows(alloc, x.frame().rows())?;
-    let none = Frame::new(alloc);
-    let s = whole_scope(x, &all, &none, vars);
-    rows_in(alloc, i, x, &s, steps)
+    match order_arguments(i) {
+        Some(args) => ordered_rows(alloc, args, x, steps),
+        None => rows_by_value(alloc, i, x, vars, steps),
+    }
 }
 
 /// All rows of a table, as they stand.
 fn all_found() -> Found
     ensures positions { result.positions ≡ None }
     ensures past { result.past ≡ false }
+    ensures logical { result.logical ≡ false }
     ensures warns { result.warns ≡ no_warns }
 {
     Found {
         positions: None,
         past: false,
+        logical: false,
         warns: Warns::none(),
     }
 }
 
 /// The rows that the i of a bracket finds of a table; without i all rows, as they stand.
 ///
-/// A bare name but `.N` is looked up among the script's names alone: E02 where it is unbound, or is
-/// another special name. The name of a table, and `!` before one, is not served. Anything else has
-/// its type first, over all rows of the table, and then its value. Then come the faults of choosing
-/// rows by it: E05 for the length of a logical, E13 for mixed signs. It touches what valuing i
-/// touches. dtq's own rule, docs/LANGUAGE.md, section "Brackets".
+/// The call of `order` gives all rows in the order of its columns, NA last: E19 with the name of an
+/// argument that has one, or with `order` where there is no argument, or one that is neither a bare
+/// name nor `-` before one; and E03 with a name that is no column's.
+///
+/// Any other i chooses rows. A bare name but `.N` is looked up among the script's names alone: E02
+/// where it is unbound, or is another special name. The name of a table, and `!` before one, is not
+/// served. Anything else has its type first, over all rows of the table, and then its value. Then
+/// come the faults of choosing rows by it: E05 for the length of a logical, E13 for mixed signs.
+/// The rows of a logical stand in the order of the table.
+///
+/// It touches what valuing i touches, and for `order` each cell of its columns. It takes memory for
+/// a place for each row. dtq's own rule, docs/LANGUAGE.md, section "Brackets".
 pub fn rows_found<V: Vars, L: Ledger>(
     alloc: Global,
     i: &Option<Expr>,
@@ -285,6 +337,7 @@ pub fn rows_found<V: Vars, L: Ledger>(
         (rows_found (option_map meaning i.now) (plain x.now) (V.bound vars.now)) result }
     ensures rows { IfOk result (AreFound x.now) }
     ensures chosen { IfOk result (λ f. is_chosen f ≡ is_some i.now) }
+    ensures order { IfOk result KeepsOrder }
     ensures own { IfErr result IsOwn }
 {
     match i {

@@ -1,7 +1,6 @@
 -- What a bracket means by its parts, and its steps one after another.
 use Rattle.std.proofs.Common.{rules, ◌≡◌, Bool, List, map, Option, None, Some, Result, Ok, refl, sym, ◌∙◌, ap}
 use Rattle.std.specs.Prelude.{is_some, option_map}
-use Rattle.dt_base.specs.declared.fault.Fault.{Fault}
 use Rattle.dt_model.specs.Table.{PlainTable}
 use Rattle.dt_tree.specs.declared.tree.Arg.{Arg}
 use Rattle.dt_tree.specs.declared.tree.Bracket.{Bracket, out-Bracket}

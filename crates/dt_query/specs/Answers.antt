@@ -8,17 +8,18 @@ use Rattle.bracket_columns.specs.declared.answer.Computed.TheVariants as compute
 use Rattle.dt_query.specs.declared.answer.Answer.{Answer}
 use Rattle.dt_query.specs.declared.answer.Outcome.{Outcome}
 use Rattle.dt_query.specs.declared.answer.Outcome.TheVariants.{Same, Table, Vector, Assigned}
-use Rattle.dt_table.specs.Change.{FitsTable}
+use Rattle.dt_table.specs.Change.{FitsTable, part_names}
 use Rattle.dt_table.specs.Plain.{plain, plain_changed}
 use Rattle.dt_table.specs.Table.{TableSeen}
 use Rattle.session_model.specs.Meanings as model
 
--- a table as a plain table, a column as its vector, a change as the plain table that it makes
+-- a table as a plain table, a column as its vector, a change as the columns that it is to and the plain table
+-- that it makes
 abbrev pub plain_outcome : TableSeen → Outcome → model.Outcome
 plain_outcome t Same = model.Same
 plain_outcome t (Table u) = model.Table (plain u)
 plain_outcome t (Vector c) = model.Vector c.vector
-plain_outcome t (Assigned ch) = model.Assigned (plain_changed t ch)
+plain_outcome t (Assigned ch) = model.Assigned (part_names t.names ch.parts) (plain_changed t ch)
 
 -- an outcome and its warnings
 abbrev pub plain_answer : TableSeen → Answer → model.Answer

@@ -1,6 +1,6 @@
 ghost use Rattle.std.specs.Prelude.{◌≡◌, IfOk, IfErr, is_some, option_map};
 ghost use Rattle.bracket_forms.specs.Items.{asked_seen};
-ghost use Rattle.bracket_rows.specs.Found.{found_of, is_chosen, AreFound};
+ghost use Rattle.bracket_rows.specs.Found.{found_of, is_chosen, AreFound, KeepsOrder};
 ghost use Rattle.dt_base.specs.Warns.{no_warns};
 ghost use Rattle.dt_query.specs.Answers.{plain_answer, OutcomeFits};
 ghost use Rattle.dt_query.specs.declared.answer.Outcome.TheVariants.{Same};
@@ -50,6 +50,7 @@ fn found<V: Vars, L: Ledger>(
         result }
     ensures rows { IfOk result (AreFound x.now) }
     ensures chosen { IfOk result (λ f. is_chosen f ≡ is_some i.now) }
+    ensures order { IfOk result KeepsOrder }
     ensures own { IfErr result IsOwn }
 {
     let rows = rows_found(alloc, i, x, vars, steps)?;
@@ -67,7 +68,8 @@ fn answer_over<V: Vars, L: Ledger>(
     rows: &Found,
     steps: &mut Steps<L>,
 ) -> Result<Answer, EvalFail>
-    requires { AreFound x.now rows.now }
+    requires rows { AreFound x.now rows.now }
+    requires order { KeepsOrder rows.now }
     ensures answer { AnswersAs (plain_answer x.now) (then_do (ungrouped (asked_seen wanted.now))
         (λ _. second_answer (is_chosen rows.now) (option_map second_meaning second.now)
         (plain x.now) (V.bound vars.now) (found_of x.now rows.now))) result }
@@ -102,7 +104,7 @@ fn asked_answer<V: Vars, L: Ledger>(
 ///
 /// With nothing in it the bracket gives the same table, with an i alone a new table of the rows
 /// that i finds, with a j what j gives over these rows, or over all, and with an assignment the
-/// same table, changed. First come the faults of its arguments as written: E19 with the argument's
+/// same table, changed. A logical i alone keeps the table's key; any other has none. First come the faults of its arguments as written: E19 with the argument's
 /// word. Then those of i, by its type, then its value, then its rows; then E19 with the first
 /// argument that wants a join. Groups and `.SDcols` are not served, which is E19 with `unbuilt`.
 /// Then those of j, by its types, then its values, then its lengths, names and limits; or those of

@@ -1,15 +1,18 @@
-ghost use Rattle.std.specs.Prelude.{◌≡◌, Some, IfOk, IfErr, option_map, map};
+ghost use Rattle.std.specs.Prelude.{◌≡◌, Some, Ok, IfOk, IfErr, option_map, map, true};
 ghost use Rattle.bracket_columns.specs.Answers.{computed_seen};
-ghost use Rattle.bracket_rows.specs.Found.{found_of, is_chosen, AreFound};
+ghost use Rattle.bracket_rows.specs.Found.{found_of, is_chosen, AreFound, KeepsOrder};
 ghost use Rattle.dt_base.specs.Warns.{both_warns};
 ghost use Rattle.dt_query.specs.Answers.{outcome_of, plain_answer, OutcomeFits};
-ghost use Rattle.dt_query.specs.Rows.{found_table};
+ghost use Rattle.dt_query.specs.Rows.{found_table, IsOfFound};
 ghost use Rattle.dt_query.specs.declared.answer.Outcome.TheVariants.{Assigned as Changed};
 ghost use Rattle.dt_table.specs.Plain.{plain};
+ghost use Rattle.dt_table.specs.Table.{HasTrueKey};
 ghost use Rattle.eval_fail.specs.Answers.{AnswersAs, IsOwn};
+ghost use Rattle.na_vector.specs.Frame.{vectors_of};
 ghost use Rattle.session_model.specs.Meaning.{arg_meaning, meaning, second_meaning};
 ghost use Rattle.session_model.specs.Meanings.{Assigns, AssignsAll};
-ghost use Rattle.session_model.specs.Second.{j_answer, rows_answer, second_answer};
+ghost use Rattle.session_model.specs.Second.{j_answer, key_kept, rows_answer};
+ghost use Rattle.session_model.specs.Second.{second_answer};
 
 use crate::{Answer, Outcome};
 use bracket_assign::{Assigned, assigned, assigned_all};
@@ -33,26 +36,49 @@ fn found_table<L: Ledger>(
 ) -> Result<Table, EvalFail>
     requires { AreFound x.now found.now }
     ensures answer { AnswersAs plain (found_table (found_of x.now found.now)) result }
+    ensures columns { IfOk result (IsOfFound x.now found.now) }
     ensures own { IfErr result IsOwn }
 {
     let frame = found_columns(alloc, x, found, steps)?;
-    new_table(alloc, x.names(), frame)
+    let _ = frame.width();
+    let table = new_table(alloc, x.names(), frame)?;
+    let _ = table.names();
+    Ok(table)
 }
 
-/// What a bracket without j gives: the rows that were found.
+/// A new table of columns with the names of `x`, with the key of `x` where i was logical.
+fn key_kept(alloc: Global, x: &Table, logical: bool, table: Table) -> Result<Table, EvalFail>
+    requires names { table.names ≡ x.now.names }
+    requires true_key { logical ≡ true →
+        HasTrueKey table.frame.rows (vectors_of table.frame.columns) x.now.key }
+    ensures answer { AnswersAs plain (Ok (key_kept (plain x.now) logical (plain table))) result }
+    ensures own { IfErr result IsOwn }
+{
+    if !logical {
+        return Ok(table);
+    }
+    let key = Vec::from_slice(alloc, x.key())?;
+    Ok(table.with_key(key))
+}
+
+/// What a bracket without j gives: the rows that were found. A logical i keeps the key, since its
+/// rows stand as they stood.
 fn rows_answer<L: Ledger>(
     alloc: Global,
     x: &Table,
     found: &Found,
     steps: &mut Steps<L>,
 ) -> Result<Answer, EvalFail>
-    requires { AreFound x.now found.now }
-    ensures answer { AnswersAs (plain_answer x.now) (rows_answer (found_of x.now found.now))
-        result }
+    requires rows { AreFound x.now found.now }
+    requires order { KeepsOrder found.now }
+    ensures answer { AnswersAs (plain_answer x.now)
+        (rows_answer (plain x.now) (found_of x.now found.now)) result }
     ensures fits { IfOk result (λ a. OutcomeFits x.now a.outcome) }
     ensures own { IfErr result IsOwn }
 {
-    let table = found_table(alloc, x, found, steps)?;
+    let _ = x.names();
+    let made = found_table(alloc, x, found, steps)?;
+    let table = key_kept(alloc, x, found.logical, made)?;
     Ok(Answer {
         outcome: Outcome::Table(table),
         warns: found.warns,
@@ -183,7 +209,8 @@ pub fn second_answer<V: Vars, L: Ledger>(
     found: &Found,
     steps: &mut Steps<L>,
 ) -> Result<Answer, EvalFail>
-    requires { AreFound x.now found.now }
+    requires rows { AreFound x.now found.now }
+    requires order { KeepsOrder found.now }
     ensures answer { AnswersAs (plain_answer x.now)
         (second_answer (is_chosen found.now) (option_map second_meaning second.now) (plain x.now)
         (V.bound vars.now) (found_of x.now found.now)) result }

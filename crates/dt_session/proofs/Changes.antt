@@ -9,11 +9,12 @@ use Rattle.dt_model.specs.State.{State}
 use Rattle.dt_model.specs.Table.{heads_of, names_at, rows_of}
 use Rattle.dt_table.specs.Change.{Add, ChangeSeen, Delete, FitsPart, FitsTable, PartSeen, Replace, Write}
 use Rattle.dt_table.specs.Change.{added_names, indices_changed, key_changed, names_changed, vectors_changed}
-use Rattle.dt_table.specs.Plain.{plain, plain_changed}
-use Rattle.dt_table.specs.Table.{HasSame, IsColumnList, IsNames, TableSeen, renamed}
+use Rattle.dt_table.specs.Plain.{plain, plain_changed, plain_keyed, plain_unindexed}
+use Rattle.dt_table.specs.Table.{HasSame, IndexSeen, IsColumnList, IsNames, TableSeen, renamed}
 use Rattle.na_vector.specs.Column.{Seen}
 use Rattle.na_vector.specs.Frame.{column_at, rows_with, vectors_of}
 use Rattle.session_model.specs.Effect.{tabled}
+use Rattle.stmt_change.specs.Altered.{FitsKey, keyed_by, without_indices, without_key}
 use Rattle.stmt_change.specs.Effects.{FitsIn, FitsNameIn, FitsRename, FitsTableIn, plain_change, plain_table}
 use Rattle.stmt_change.specs.Effects.{with_names}
 use Rattle.stmt_change.specs.Places.{table_at, table_in}
@@ -22,8 +23,9 @@ use Rattle.stmt_change.specs.declared.change.NameChange.{NameChange}
 use Rattle.stmt_change.specs.declared.change.NameChange.TheVariants as name
 use Rattle.stmt_change.specs.declared.change.TableChange.{TableChange}
 use Rattle.stmt_change.specs.declared.change.TableChange.TheVariants as table
-use Rattle.table_heap.specs.Changes.{plain_renamed, SameHeaps}
-use Rattle.table_heap.specs.Changes.{ChangesAt, FitsAt, HoldsSame, RenamesAt, SamePlace, SamePlaces, StaysLive}
+use Rattle.table_heap.specs.Altered.{FitsAltered, FitsAt, FitsIndex, FitsParts, indexed, table_altered, table_with}
+use Rattle.table_heap.specs.Changes.{KeyedAt, plain_rekeyed, plain_renamed, SameHeaps}
+use Rattle.table_heap.specs.Changes.{ChangesAt, HoldsSame, RenamesAt, SamePlace, SamePlaces, StaysLive}
 use Rattle.table_heap.specs.declared.bound.Id.{Id}
 use Rattle.table_heap.specs.declared.bound.Numbered.{Numbered}
 use Rattle.table_heap.specs.Seen.{HasNumber, HeapSeen, IsAt, IsTableAt, Slots, slot_at}
@@ -80,6 +82,79 @@ fits_rename t u cols names s h = record {
   all = subst (λ (all : List (List ℕ)). IsNames (renamed cols names all)) (sym s.names) h.all;
 }
 
+fits_parts : (t u : TableSeen) (ch : Option ChangeSeen) → HasSame t u → FitsParts t ch → FitsParts u ch
+fits_parts t u None s h = tt
+fits_parts t u (Some ch) s h = fits_table t u ch s h
+
+fits_index : (t u : TableSeen) (x : Option IndexSeen) → HasSame t u → FitsIndex t x → FitsIndex u x
+fits_index t u None s h = tt
+fits_index t u (Some x) s h = record {
+  index = rw (s.names, s.rows, s.vectors) h.index;
+  once = rw s.indices h.once;
+}
+
+fits_altered : (t u : TableSeen) (x : Option IndexSeen) (ch : Option ChangeSeen) → HasSame t u → FitsAltered t x ch
+    → FitsAltered u x ch
+fits_altered t u x ch s h =
+    record { index = fits_index t u x s h.index; parts = fits_parts t u ch s h.parts }
+
+fits_key : (t u : TableSeen) (key : List ℕ) → HasSame t u → FitsKey t key → FitsKey u key
+fits_key t u key s h = record {
+  columns = rw s.names h.columns;
+  true_key = rw (s.rows, s.vectors) h.true_key;
+}
+
+-- the same index behind those of both
+indexed_same : (t u : TableSeen) (x : Option IndexSeen) → HasSame t u → HasSame (indexed t x) (indexed u x)
+indexed_same t u None s = s
+indexed_same t u (Some x) s = record {
+  names = s.names;
+  vectors = s.vectors;
+  rows = s.rows;
+  key = s.key;
+  indices = ap (λ xs. xs ++ x ∷ []) s.indices;
+  slots = s.slots;
+}
+
+plain_same : (t u : TableSeen) → HasSame t u → plain u ≡ plain t
+plain_same t u s = λ i. record {
+  columns = heads_of (s.names i) (s.vectors i);
+  rows = rows_of (s.rows i) (s.vectors i);
+  key = names_at (s.names i) (s.key i);
+  indices = map (λ x. names_at (s.names i) x.cols) (s.indices i);
+  slots = s.slots i;
+}
+
+keyed_same : (t u : TableSeen) (key : List ℕ) → HasSame t u → HasSame (keyed_by key t) (keyed_by key u)
+keyed_same t u key s = record {
+  names = s.names;
+  vectors = s.vectors;
+  rows = s.rows;
+  key = refl;
+  indices = refl;
+  slots = s.slots;
+}
+
+unkeyed_same : (t u : TableSeen) → HasSame t u → HasSame (without_key t) (without_key u)
+unkeyed_same t u s = record {
+  names = s.names;
+  vectors = s.vectors;
+  rows = s.rows;
+  key = refl;
+  indices = s.indices;
+  slots = s.slots;
+}
+
+unindexed_same : (t u : TableSeen) → HasSame t u → HasSame (without_indices t) (without_indices u)
+unindexed_same t u s = record {
+  names = s.names;
+  vectors = s.vectors;
+  rows = s.rows;
+  key = s.key;
+  indices = refl;
+  slots = s.slots;
+}
+
 changed_same : (t u : TableSeen) (ch : ChangeSeen) → HasSame t u → plain_changed u ch ≡ plain_changed t ch
 changed_same t u ch s = λ i. record {
   columns = heads_of (names_changed ch.parts (s.names i)) (vectors_changed ch.parts (s.vectors i));
@@ -91,6 +166,14 @@ changed_same t u ch s = λ i. record {
       map (λ x. names_at (names_changed ch.parts (s.names i)) x.cols) (indices_changed ch.parts (s.indices i));
   slots = s.slots i;
 }
+
+parts_same : (t u : TableSeen) (ch : Option ChangeSeen) → HasSame t u → table_with u ch ≡ table_with t ch
+parts_same t u None s = plain_same t u s
+parts_same t u (Some ch) s = changed_same t u ch s
+
+altered_same : (t u : TableSeen) (x : Option IndexSeen) (ch : Option ChangeSeen) → HasSame t u
+    → table_altered u x ch ≡ table_altered t x ch
+altered_same t u x ch s = parts_same (indexed t x) (indexed u x) ch (indexed_same t u x s)
 
 renamed_same : (t u : TableSeen) (cols : List ℕ) (names : List (List ℕ)) → HasSame t u
     → plain (with_names cols names u) ≡ plain (with_names cols names t)
@@ -128,8 +211,17 @@ pub at_own : (h : HeapSeen) (id : Id) → IsAt h id → IsTableAt h id (table_at
 at_own h id at = own_table id.number (slot_at h.held.slots id.slot) at
 
 -- the change of the Id's table, as the heap asks for it
-pub parts_fit : (h : HeapSeen) (id : Id) (ch : ChangeSeen) → IsAt h id × FitsTable (table_at h id) ch → FitsAt h id ch
-parts_fit h id ch fits = record { table = table_at h id; place = at_own h id fits.0; fits = fits.1 }
+pub parts_fit : (h : HeapSeen) (id : Id) (x : Option IndexSeen) (ch : Option ChangeSeen)
+    → IsAt h id × FitsAltered (table_at h id) x ch → FitsAt h id x ch
+parts_fit h id x ch fits = record { table = table_at h id; place = at_own h id fits.0; fits = fits.1 }
+
+pub key_fits : (h : HeapSeen) (id : Id) (key : List ℕ) → IsAt h id × FitsKey (table_at h id) key → KeyedAt h id key
+key_fits h id key fits = record {
+  table = table_at h id;
+  place = at_own h id fits.0;
+  cols = fits.1.columns;
+  true_key = fits.1.true_key;
+}
 
 pub rename_fits : (h : HeapSeen) (id : Id) (cols : List ℕ) (names : List (List ℕ))
     → IsAt h id × FitsRename (table_at h id) cols names → RenamesAt h id cols names
@@ -145,10 +237,15 @@ rename_fits h id cols names fits = record {
 
 fits_table_in : SameHeaps → (h k : HeapSeen) (c : TableChange) → HoldsSame h k → FitsTableIn h c → FitsTableIn k c
 fits_table_in l h k table.Nothing same fits = tt
-fits_table_in l h k (table.Parts id parts) same fits =
-    (l.live h k same id fits.0, fits_table _ _ parts (same_table h k id same fits.0) fits.1)
+fits_table_in l h k (table.Altered a) same fits =
+    (l.live h k same a.id fits.0, fits_altered _ _ a.index a.parts (same_table h k a.id same fits.0) fits.1)
 fits_table_in l h k (table.Rename id cols names) same fits =
     (l.live h k same id fits.0, fits_rename _ _ cols.items names.items (same_table h k id same fits.0) fits.1)
+fits_table_in l h k (table.Reordered id t) same fits = l.live h k same id fits
+fits_table_in l h k (table.Keyed id key) same fits =
+    (l.live h k same id fits.0, fits_key _ _ key.items (same_table h k id same fits.0) fits.1)
+fits_table_in l h k (table.Unkeyed id) same fits = l.live h k same id fits
+fits_table_in l h k (table.Unindexed id) same fits = l.live h k same id fits
 
 pub fits_name_in : (h k : HeapSeen) (c : NameChange) → StaysLive h k → FitsNameIn h c → FitsNameIn k c
 fits_name_in h k name.Nothing live fits = tt
@@ -165,8 +262,15 @@ fits_same l h k c same fits = record {
 
 table_same : (h k : HeapSeen) (c : TableChange) → HoldsSame h k → FitsTableIn h c → plain_table k c ≡ plain_table h c
 table_same h k table.Nothing same fits = refl
-table_same h k (table.Parts id parts) same fits =
-    ap (λ t. Some (id.number, t)) (changed_same _ _ parts (same_table h k id same fits.0))
+table_same h k (table.Altered a) same fits =
+    ap (λ t. Some (a.id.number, t)) (altered_same _ _ a.index a.parts (same_table h k a.id same fits.0))
+table_same h k (table.Reordered id t) same fits = refl
+table_same h k (table.Keyed id key) same fits =
+    ap (λ t. Some (id.number, t)) (plain_same _ _ (keyed_same _ _ key.items (same_table h k id same fits.0)))
+table_same h k (table.Unkeyed id) same fits =
+    ap (λ t. Some (id.number, t)) (plain_same _ _ (unkeyed_same _ _ (same_table h k id same fits)))
+table_same h k (table.Unindexed id) same fits =
+    ap (λ t. Some (id.number, t)) (plain_same _ _ (unindexed_same _ _ (same_table h k id same fits)))
 table_same h k (table.Rename id cols names) same fits =
     ap (λ t. Some (id.number, t)) (renamed_same _ _ cols.items names.items (same_table h k id same fits.0))
 
@@ -185,10 +289,23 @@ held_same l h k same = record {
 
 -- ---- The change of a table, made
 
-pub parts_made : (h : HeapSeen) (now : State) (id : Id) (ch : ChangeSeen) → IsAt h id
-    → ChangesAt h id (λ t. plain_changed t ch) now
-    → now ≡ tabled (state_of h) (Some (id.number, plain_changed (table_at h id) ch))
-parts_made h now id ch at changes = changes (table_at h id) (at_own h id at)
+pub parts_made : (h : HeapSeen) (now : State) (id : Id) (x : Option IndexSeen) (ch : Option ChangeSeen) → IsAt h id
+    → ChangesAt h id (λ t. table_altered t x ch) now
+    → now ≡ tabled (state_of h) (Some (id.number, table_altered (table_at h id) x ch))
+parts_made h now id x ch at changes = changes (table_at h id) (at_own h id at)
+
+pub key_set : (h : HeapSeen) (now : State) (id : Id) (key : List ℕ) → IsAt h id
+    → ChangesAt h id (plain_rekeyed key) now
+    → now ≡ tabled (state_of h) (Some (id.number, plain (keyed_by key (table_at h id))))
+key_set h now id key at changes = changes (table_at h id) (at_own h id at)
+
+pub key_dropped : (h : HeapSeen) (now : State) (id : Id) → IsAt h id → ChangesAt h id (plain_keyed []) now
+    → now ≡ tabled (state_of h) (Some (id.number, plain (without_key (table_at h id))))
+key_dropped h now id at changes = changes (table_at h id) (at_own h id at)
+
+pub indices_dropped : (h : HeapSeen) (now : State) (id : Id) → IsAt h id → ChangesAt h id plain_unindexed now
+    → now ≡ tabled (state_of h) (Some (id.number, plain (without_indices (table_at h id))))
+indices_dropped h now id at changes = changes (table_at h id) (at_own h id at)
 
 pub names_given : (h : HeapSeen) (now : State) (id : Id) (cols : List ℕ) (names : List (List ℕ)) → IsAt h id
     → ChangesAt h id (plain_renamed cols names) now

@@ -23,8 +23,12 @@ fn finish_table<L: Ledger>(heap: &mut Heap, change: TableChange, steps: &mut Ste
 {
     match change {
         TableChange::Nothing => (),
-        TableChange::Parts { id, parts } => heap.apply_change(id, parts, steps),
+        TableChange::Altered(a) => heap.apply_change(a.id, a.index, a.parts, steps),
         TableChange::Rename { id, cols, names } => heap.rename(id, cols.as_slice(), names),
+        TableChange::Reordered { id, table } => heap.put_table(id, table),
+        TableChange::Keyed { id, key } => heap.set_key(id, key),
+        TableChange::Unkeyed { id } => heap.drop_key(id),
+        TableChange::Unindexed { id } => heap.drop_indices(id),
     }
 }
 

@@ -90,8 +90,10 @@ fn reserve_table(heap: &mut Heap, change: &TableChange) -> Result<(), AllocError
 {
     same_heaps();
     match change {
-        TableChange::Parts { id, parts } => heap.reserve_change(*id, parts),
+        TableChange::Altered(a) => heap.reserve_change(a.id, &a.index, &a.parts),
         TableChange::Nothing | TableChange::Rename { .. } => Ok(()),
+        TableChange::Reordered { .. } | TableChange::Keyed { .. } => Ok(()),
+        TableChange::Unkeyed { .. } | TableChange::Unindexed { .. } => Ok(()),
     }
 }
 

@@ -13,7 +13,7 @@ use Rattle.dt_table.specs.Change.{Delete, RoomFor, added_names, cols_of, is_name
 use Rattle.dt_model.specs.Vector.{Vector}
 use Rattle.dt_table.specs.Parts.{FitsNow, vector_at}
 use Rattle.dt_table.specs.Plain.{plain, plain_changed}
-use Rattle.dt_table.specs.Table.{HasSame, IsTable, TableSeen}
+use Rattle.dt_table.specs.Table.{HasSame, IndexSeen, IsTable, TableSeen}
 use Rattle.dt_table.proofs.OnePart.{vector_of_column}
 use Rattle.dt_table.proofs.Tables.{same_width}
 use Rattle.dt_table.proofs.Changing.{made_length}
@@ -129,6 +129,26 @@ FitsTable-same t u ch kept table s e h = record {
   names = rw (e, s.names) h.names;
   width = rw (e, s.names, s.slots) h.width;
   cells = rw (e, s.names, s.rows) h.cells;
+}
+
+-- ---- Nor does it look at the indices
+
+part_fits_indexed : (t : TableSeen) (xs : List IndexSeen) (n : ℕ) (p : PartSeen) → FitsPart t p
+    → FitsPart (record t { indices = xs; index_room = n }) p
+part_fits_indexed t xs n (Replace c with) h = h
+part_fits_indexed t xs n (Write c at cells) h = h
+part_fits_indexed t xs n (Add name with) h = h
+part_fits_indexed t xs n (Delete c) h = h
+
+pub FitsTable-indexed : (t : TableSeen) (xs : List IndexSeen) (n : ℕ) (ch : ChangeSeen) → FitsTable t ch
+    → FitsTable (record t { indices = xs; index_room = n }) ch
+FitsTable-indexed t xs n ch h = record {
+  parts = All-weaker (FitsPart t) (FitsPart (record t { indices = xs; index_room = n })) (part_fits_indexed t xs n)
+      ch.parts h.parts;
+  once = h.once;
+  names = h.names;
+  width = h.width;
+  cells = h.cells;
 }
 
 pub HasSame-trans : (t u v : TableSeen) → HasSame t u → HasSame u v → HasSame t v

@@ -12,5 +12,6 @@ pub mod Plain
 pub mod PlainKeys
 pub mod PlainTables
 pub mod Putting
+pub mod Reordering
 pub mod Tables
 pub mod Truth

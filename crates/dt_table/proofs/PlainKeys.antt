@@ -56,7 +56,7 @@ cells_in_rows vs c n d lt long =
     ∙ sym (fill_by_all (cell_at (get_or vs c d).cells) (get_or vs c d).cells n Na long (λ k l. refl)))
 
 -- the cells of a column of the plain reading, by its name
-cells_by_name : (t : TableSeen) (c : ℕ) (d : Seen) → IsTable t → c < length t.names
+pub cells_by_name : (t : TableSeen) (c : ℕ) (d : Seen) → IsTable t → c < length t.names
     → cells_named (plain t) (name_at t.names c) ≡ cells_in (slice_get (vectors_of t.frame.columns) c)
 cells_by_name t c d h lt =
     let vs : List Vector = vectors_of t.frame.columns in
@@ -76,7 +76,7 @@ cells_by_name t c d h lt =
 
 -- ---- The key
 
-key_by_names : (t : TableSeen) (cols : List ℕ) → IsTable t → AllByRecursion (λ c. c < length t.names) cols
+pub key_by_names : (t : TableSeen) (cols : List ℕ) → IsTable t → AllByRecursion (λ c. c < length t.names) cols
     → key_of (cells_named (plain t)) (names_at t.names cols) ≡ rising (vectors_of t.frame.columns) cols
 key_by_names t [] h range = refl
 key_by_names t (c ∷ cols) h range =

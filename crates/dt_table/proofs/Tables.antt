@@ -22,11 +22,20 @@ no_columns width cols e = rw e (record {
 })
 
 -- without a key and indices only the names, the cells and the slots are to be seen to
-pub IsTable-new : (names : List (List ℕ)) (f : FrameSeen) (key : List ℕ) (indices : List IndexSeen) (slots spare : ℕ)
+pub IsTable-new : (names : List (List ℕ)) (f : FrameSeen) (key : List ℕ) (indices : List IndexSeen)
+    (slots spare index_room : ℕ)
     → IsFrame f.columns f.rows → length names ≡ length f.columns → All IsFilled names → first_repeated names ≡ None
     → f.rows * length f.columns ≤ 67108864 → length f.columns ≤ slots → key ≡ [] → indices ≡ []
-    → IsTable (record { names = names; frame = f; key = key; indices = indices; slots = slots; spare = spare })
-IsTable-new names f key indices slots spare frame named filled once cells room k i = record {
+    → IsTable (record {
+      names = names;
+      frame = f;
+      key = key;
+      indices = indices;
+      slots = slots;
+      spare = spare;
+      index_room = index_room;
+    })
+IsTable-new names f key indices slots spare index_room frame named filled once cells room k i = record {
   frame = frame;
   named = named;
   names = record { filled = filled; distinct = IsDistinct-from_none names once };
@@ -39,7 +48,7 @@ IsTable-new names f key indices slots spare frame named filled once cells room k
 
 -- a copy of a table's parts is a table
 pub IsTable-copy : (t : TableSeen) (names : List (List ℕ)) (f : FrameSeen) (key : List ℕ) (indices : List IndexSeen)
-    (slots spare : ℕ) → IsTable t → IsFrame f.columns f.rows → names ≡ t.names → vectors_of f.columns
+    (slots spare index_room : ℕ) → IsTable t → IsFrame f.columns f.rows → names ≡ t.names → vectors_of f.columns
     ≡ vectors_of t.frame.columns → f.rows ≡ t.frame.rows → key ≡ t.key → indices ≡ t.indices
     → length f.columns ≤ slots → IsTable (record {
       names = names;
@@ -49,8 +58,9 @@ pub IsTable-copy : (t : TableSeen) (names : List (List ℕ)) (f : FrameSeen) (ke
       slots =
           slots;
       spare = spare;
+      index_room = index_room;
     })
-IsTable-copy t names f key indices slots spare h frame n v r k i room =
+IsTable-copy t names f key indices slots spare index_room h frame n v r k i room =
     let width : length f.columns ≡ length t.frame.columns = sym (length-map f.columns (λ (c : Seen). c.vector))
     ∙ (ap length v ∙ length-map t.frame.columns (λ (c : Seen). c.vector)) in
     record {
@@ -65,8 +75,8 @@ IsTable-copy t names f key indices slots spare h frame n v r k i room =
     }
 
 -- other names in a table's columns
-pub IsTable-renamed : (t : TableSeen) (names : List (List ℕ)) (spare : ℕ) → IsTable t → length names ≡ length t.names
-    → IsNames names → IsTable (record {
+pub IsTable-renamed : (t : TableSeen) (names : List (List ℕ)) (spare index_room : ℕ) → IsTable t
+    → length names ≡ length t.names → IsNames names → IsTable (record {
       names = names;
       frame = t.frame;
       key = t.key;
@@ -74,8 +84,9 @@ pub IsTable-renamed : (t : TableSeen) (names : List (List ℕ)) (spare : ℕ) �
       slots =
           t.slots;
       spare = spare;
+      index_room = index_room;
     })
-IsTable-renamed t names spare h e n = record {
+IsTable-renamed t names spare index_room h e n = record {
   frame = h.frame;
   named = e ∙ h.named;
   names = n;
@@ -103,18 +114,20 @@ IsFrame-roomier f g h r =
       short = rw r.rows h.short;
     }
 
-pub IsTable-roomier : (t : TableSeen) (names : List (List ℕ)) (g : FrameSeen) (spare : ℕ) → IsTable t → names
-    ≡ t.names → IsRoomier t.frame g → IsTable (record {
+pub IsTable-roomier : (t : TableSeen) (names : List (List ℕ)) (g : FrameSeen) (spare index_room : ℕ) → IsTable t
+    → names ≡ t.names → IsRoomier t.frame g → IsTable (record {
       names = names;
       frame = g;
       key = t.key;
       indices = t.indices;
       slots = t.slots;
       spare = spare;
+      index_room = index_room;
     })
-IsTable-roomier t names g spare h n r =
+IsTable-roomier t names g spare index_room h n r =
     let long : length g.columns ≡ length t.frame.columns = roomier_length t.frame g r in
-    IsTable-copy t names g t.key t.indices t.slots spare h (IsFrame-roomier t.frame g h.frame r) n r.vectors r.rows
+    IsTable-copy t names g t.key t.indices t.slots spare index_room h (IsFrame-roomier t.frame g h.frame r)
+    n r.vectors r.rows
     refl refl (let w = h.width in let e = h.named in omega arith)
 
 pub same_width : (f g : List Seen) → vectors_of g ≡ vectors_of f → length g ≡ length f

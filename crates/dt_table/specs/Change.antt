@@ -7,6 +7,7 @@
 --   changed o v           what a column's part makes of it
 --   kept parts c xs       of what stands at the columns from c on, that of the columns that stay
 --   added_names, added_vectors    the new columns, in order
+--   part_names names parts   the columns that parts name or add, in the order of the parts
 --   stays_before parts c  how many columns before c stay: the place of a column that stays
 --   names_changed ..      the names, vectors, key and indices of the changed table
 --   FitsTable t ch        the change may be made
@@ -20,6 +21,7 @@ use Rattle.std.specs.List.{IsDistinct, filter, list_any}
 use Rattle.dt_base.specs.declared.cell.Cell.{Cell}
 use Rattle.dt_base.specs.declared.limits.TheConstants.{MAX_CELLS}
 use Rattle.dt_base.specs.Cell.{IsOfType}
+use Rattle.dt_model.specs.Table.{name_at}
 use Rattle.dt_model.specs.Vector.{Vector}
 use Rattle.na_vector.specs.Column.{Seen}
 use Rattle.na_vector.specs.Frame.{column_at, rows_with, vectors_of}
@@ -97,6 +99,16 @@ abbrev pub added_vectors : List PartSeen → List Vector
 added_vectors [] = []
 added_vectors (Add name with ∷ parts) = with ∷ added_vectors parts
 added_vectors (_ ∷ parts) = added_vectors parts
+
+-- the column that a part names or adds
+abbrev pub part_name : List (List ℕ) → PartSeen → List ℕ
+part_name names (Replace c with) = name_at names c
+part_name names (Write c at cells) = name_at names c
+part_name names (Add name with) = name
+part_name names (Delete c) = name_at names c
+
+abbrev pub part_names : List (List ℕ) → List PartSeen → List (List ℕ)
+part_names names parts = map (part_name names) parts
 
 -- the columns that stay, in order, and then the new ones
 abbrev pub names_changed : List PartSeen → List (List ℕ) → List (List ℕ)

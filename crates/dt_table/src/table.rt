@@ -19,17 +19,16 @@ use std::sync::ledger::Ledger;
 /// A table: named columns of one length, a key, indices, and a number of column slots.
 ///
 /// Its names are distinct and none is empty; it has at most 16,777,216 rows and 67,108,864 cells,
-/// and no more columns than slots. Over the columns of its key no row stands above the next
-/// one, and
-/// each index has the rows in the order of its columns. Contracts see all its parts, and `plain`
-/// reads them row by row.
+/// and no more columns than slots. Over the columns of its key no row stands above the next one,
+/// and each index has the rows in the order of its columns. Contracts see all its parts, and for
+/// how many more names and indices there is room; `plain` reads the parts row by row.
 #[derive(Drop)]
 pub struct Table {
-    names: Vec<ColName>,
-    frame: Frame,
-    key: Vec<usize>,
-    indices: Vec<Index>,
-    slots: usize,
+    pub(crate) names: Vec<ColName>,
+    pub(crate) frame: Frame,
+    pub(crate) key: Vec<usize>,
+    pub(crate) indices: Vec<Index>,
+    pub(crate) slots: usize,
 }
 
 impl Model for Table {
@@ -39,9 +38,25 @@ impl Model for Table {
 
     ghost use Rattle.std.specs.Prelude.{◌-◌, vec_len, vec_capacity};
 
-    ghost view = { λ t. record { names = t.names.items; frame = t.frame; key = t.key.items; indices = t.indices.items; slots = t.slots; spare = vec_capacity t.names - vec_len t.names } };
+    ghost view = { λ t. record {
+      names = t.names.items;
+      frame = t.frame;
+      key = t.key.items;
+      indices = t.indices.items;
+      slots = t.slots;
+      spare = vec_capacity t.names - vec_len t.names;
+      index_room = vec_capacity t.indices - vec_len t.indices;
+    } };
 
-    ghost invariant = { λ t. IsTable (record { names = t.names.items; frame = t.frame; key = t.key.items; indices = t.indices.items; slots = t.slots; spare = vec_capacity t.names - vec_len t.names }) };
+    ghost invariant = { λ t. IsTable (record {
+      names = t.names.items;
+      frame = t.frame;
+      key = t.key.items;
+      indices = t.indices.items;
+      slots = t.slots;
+      spare = vec_capacity t.names - vec_len t.names;
+      index_room = vec_capacity t.indices - vec_len t.indices;
+    }) };
 }
 
 impl Table {
@@ -54,9 +69,8 @@ impl Table {
     /// columns. There are as many names as columns, and no name is empty.
     ///
     /// It is refused, first of these, where a name stands before it too (with the least such
-    /// place),
-    /// where there are too many rows, too many cells, or more than 4,096 columns. Its time and its
-    /// memory are linear in the names.
+    /// place), where there are too many rows, too many cells, or more than 4,096 columns. Its time
+    /// and its memory are linear in the names.
     pub fn make(alloc: Global, names: Vec<ColName>, frame: Frame) -> Result<Table, MakeFail>
         requires count { length names.items ≡ length frame.columns }
         requires filled { All IsFilled names.items }
@@ -127,8 +141,7 @@ impl Table {
     }
 
     /// The columns of the key, counted from 0, the first one first. It also says what is so of
-    /// every
-    /// table.
+    /// every table.
     pub fn key(&self) -> &[usize]
         ensures key { result.now ≡ self.now.key }
         ensures table { IsTable self.now }
@@ -176,9 +189,8 @@ impl Table {
     }
 
     /// Makes a change, which fits the table and for which there is room. It cuts the key before the
-    /// first column that is changed or goes, and drops each index that has such a column. It
-    /// takes no
-    /// memory, and touches each cell that is written.
+    /// first column that is changed or goes, and drops each index that has such a column. It takes
+    /// no memory, and touches each cell that is written.
     pub fn apply<L: Ledger>(&mut self, ch: Change, steps: &mut Steps<L>)
         requires fits { FitsTable self.old ch }
         requires room { RoomFor self.old ch }
@@ -194,8 +206,7 @@ impl Table {
     }
 
     /// Makes the room that `apply` of this change needs. Whatever its answer, spare numbers may
-    /// have
-    /// risen, and all else is as it was.
+    /// have risen, and all else is as it was.
     pub fn reserve_change(&mut self, ch: &Change) -> Result<(), AllocError>
         requires fits { FitsTable self.old ch.now }
         ensures room { OnOk result (RoomFor self.new ch.now) }
@@ -207,9 +218,8 @@ impl Table {
     }
 
     /// Gives columns other names, in the order of both lists. The columns are distinct and in
-    /// range,
-    /// there are as many names, and all names are distinct then and none is empty. It takes no
-    /// memory.
+    /// range, there are as many names, and all names are distinct then and none is empty. It takes
+    /// no memory.
     pub fn rename(&mut self, cols: &[usize], names: Vec<ColName>)
         requires cols { IsColumnList (length self.old.names) cols.now }
         requires each { length cols.now ≡ length names.items }
@@ -245,8 +255,7 @@ impl Table {
 
     /// The new table that `apply` of this change, which fits, would leave, its slots included. This
     /// table stays as it is. It touches each cell of the table and of the change's columns, and
-    /// each cell
-    /// that is written.
+    /// each cell that is written.
     pub fn preview<L: Ledger>(
         &self,
         alloc: Global,

@@ -125,7 +125,8 @@ fn check_call<V: Vars>(
     }
 }
 
-/// The call of a function: a table function is E04 and a command E19, at once.
+/// The call of a function: a table function is E04 and a command E19, at once; so is E04 what tells
+/// of a table's orders, or gives rows in an order.
 #[cycle(check)]
 fn check_kind<V: Vars>(
     alloc: Global,
@@ -139,7 +140,7 @@ fn check_kind<V: Vars>(
     ensures own { IfErr result IsOwn }
 {
     match kind_of(f) {
-        Kind::Table => Err(stop(alloc, Code::E04, func_word(f))),
+        Kind::Table | Kind::Report | Kind::Rows => Err(stop(alloc, Code::E04, func_word(f))),
         Kind::Command => Err(stop(alloc, Code::E19, func_word(f))),
         Kind::Vector => check_bound(alloc, f, args, s),
         Kind::Description => check_description(alloc, f, args, s),
@@ -177,7 +178,7 @@ fn check_bound<V: Vars>(
     match arity_of(f) {
         Arity::Unnamed => check_each(alloc, args, s),
         Arity::Fixed => check_fixed(alloc, f, args, s),
-        Arity::Columns => Err(stop_unbuilt(alloc)),
+        Arity::Columns | Arity::More | Arity::Named => Err(stop_unbuilt(alloc)),
     }
 }
 

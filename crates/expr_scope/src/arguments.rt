@@ -96,7 +96,6 @@ pub fn later_call(alloc: Global, name: &str) -> EvalFail
         None => stop(alloc, Code::E02, name),
         Some(Later::Vector) => stop_unbuilt(alloc),
         Some(Later::NoVector) => stop(alloc, Code::E04, name),
-        Some(Later::Command) => stop(alloc, Code::E19, name),
     }
 }
 

@@ -202,7 +202,7 @@ fn eval_kind<V: Vars, L: Ledger>(
     ensures touches { Within (joined_cost (arity_of f) args.now) steps.old steps.new }
 {
     match kind_of(f) {
-        Kind::Table => Err(stop(alloc, Code::E04, func_word(f))),
+        Kind::Table | Kind::Report | Kind::Rows => Err(stop(alloc, Code::E04, func_word(f))),
         Kind::Command => Err(stop(alloc, Code::E19, func_word(f))),
         Kind::Vector => eval_bound(alloc, f, args, s, steps),
         Kind::Description => eval_description(alloc, f, args, s),
@@ -243,7 +243,7 @@ fn eval_bound<V: Vars, L: Ledger>(
     match arity_of(f) {
         Arity::Unnamed => eval_each(alloc, args, s, steps),
         Arity::Fixed => eval_fixed(alloc, f, args, s, steps),
-        Arity::Columns => Err(stop_unbuilt(alloc)),
+        Arity::Columns | Arity::More | Arity::Named => Err(stop_unbuilt(alloc)),
     }
 }
 

@@ -2,7 +2,8 @@
 --   all_funcs       the functions and commands that have a row
 --   row_of f        all that is told of f:
 --   word_of f         its name
---   kind_of f         whether f gives a table, is a command, gives a vector, or tells of a table
+--   kind_of f         whether f gives a table, is a command, gives a vector, tells of a table, tells of its
+--                     orders, or orders rows
 --   arity_of f        how its arguments are bound
 --   formals_of f      its formals, in order
 --   func_of w       the function of the name w
@@ -16,7 +17,8 @@ use Rattle.std.specs.Prelude.{◌||◌, Bool, true, false, cond, List, ℕ, [], 
 use Rattle.std.specs.Str.{bytes_eq}
 use Rattle.func_table.specs.declared.func.Func.{Func}
 use Rattle.func_table.specs.declared.func.Func.TheVariants.{DataTable, Fread, Copy, Library, Print, Fwrite, Rm}
-use Rattle.func_table.specs.declared.func.Func.TheVariants.{Set, SetNames}
+use Rattle.func_table.specs.declared.func.Func.TheVariants.{Set, SetNames, SetKey, SetOrder, SetIndex, SetOptions}
+use Rattle.func_table.specs.declared.func.Func.TheVariants.{Key, Indices, Order}
 use Rattle.func_table.specs.declared.func.Func.TheVariants.{Combine, IsNa, Fifelse, AsLogical, AsInteger, AsCharacter}
 use Rattle.func_table.specs.declared.func.Func.TheVariants.{Sum, Min, Max, Any, All, First, Last, Length}
 use Rattle.func_table.specs.declared.func.Func.TheVariants.{Nrow, Ncol, Names}
@@ -36,6 +38,7 @@ use Rattle.func_table.specs.Rows.{looked}
 abbrev pub all_funcs : List Func
 all_funcs =
     DataTable ∷ Fread ∷ Copy ∷ Library ∷ Print ∷ Fwrite ∷ Rm ∷ Set ∷ SetNames
+    ∷ SetKey ∷ SetOrder ∷ SetIndex ∷ SetOptions ∷ Key ∷ Indices ∷ Order
     ∷ Combine ∷ IsNa ∷ Fifelse ∷ AsLogical ∷ AsInteger ∷ AsCharacter
     ∷ Sum ∷ Min ∷ Max ∷ Any ∷ All ∷ First ∷ Last ∷ Length
     ∷ Nrow ∷ Ncol ∷ Names ∷ []
@@ -51,7 +54,12 @@ pub record Row : Type 0 where
 abbrev pub fixed : List ℕ → Kind → List Formal → Row
 fixed w k ps = record { word = w; kind = k; arity = arity.Fixed; formals = ps }
 
--- the arguments of `data.table` are columns, and those of `c` have no names
+-- a call of a table and of columns, which have no names
+abbrev pub with_columns : List ℕ → Row
+with_columns w = record { word = w; kind = kind.Command; arity = arity.More; formals = formal.D ∷ [] }
+
+-- The arguments of `data.table` are columns; those of `c` and of `order` have no names, and those of
+-- `options` are nothing without one.
 abbrev pub row_of : Func → Row
 row_of DataTable = record { word = codes "data.table"; kind = kind.Table; arity = arity.Columns; formals = [] }
 row_of Fread = fixed (codes "fread") kind.Table (formal.File ∷ [])
@@ -62,6 +70,18 @@ row_of Fwrite = fixed (codes "fwrite") kind.Command (formal.Table ∷ formal.Fil
 row_of Rm = fixed (codes "rm") kind.Command (formal.Name ∷ [])
 row_of Set = fixed (codes "set") kind.Command (formal.D ∷ formal.I ∷ formal.J ∷ formal.NewValue ∷ [])
 row_of SetNames = fixed (codes "setnames") kind.Command (formal.D ∷ formal.Old ∷ formal.New ∷ [])
+row_of SetKey = with_columns (codes "setkey")
+row_of SetOrder = with_columns (codes "setorder")
+row_of SetIndex = with_columns (codes "setindex")
+row_of SetOptions = record {
+  word = codes "options";
+  kind = kind.Command;
+  arity = arity.Named;
+  formals = formal.AutoIndex ∷ formal.UseIndex ∷ [];
+}
+row_of Key = fixed (codes "key") kind.Report (formal.D ∷ [])
+row_of Indices = fixed (codes "indices") kind.Report (formal.D ∷ [])
+row_of Order = record { word = codes "order"; kind = kind.Rows; arity = arity.Unnamed; formals = [] }
 row_of Combine = record { word = codes "c"; kind = kind.Vector; arity = arity.Unnamed; formals = [] }
 row_of IsNa = fixed (codes "is.na") kind.Vector (formal.X ∷ [])
 row_of Fifelse = fixed (codes "fifelse") kind.Vector (formal.Test ∷ formal.Yes ∷ formal.No ∷ [])
@@ -115,32 +135,34 @@ name_of formal.J = codes "j"
 name_of formal.NewValue = codes "value"
 name_of formal.Old = codes "old"
 name_of formal.New = codes "new"
+name_of formal.AutoIndex = codes "datatable.auto.index"
+name_of formal.UseIndex = codes "datatable.use.index"
 
--- `na.rm` and the `i` of `set` may be left out
+-- `na.rm`, the `i` of `set` and each option may be left out
 abbrev pub is_needed : Formal → Bool
 is_needed formal.NaRm = false
 is_needed formal.I = false
+is_needed formal.AutoIndex = false
+is_needed formal.UseIndex = false
 is_needed _ = true
 
--- `na.rm` is TRUE or FALSE, as written
+-- `na.rm` and the options are TRUE or FALSE, as written
 abbrev pub is_flag : Formal → Bool
 is_flag formal.NaRm = true
+is_flag formal.AutoIndex = true
+is_flag formal.UseIndex = true
 is_flag _ = false
 
 -- ---- Calls that nothing serves yet
 
 -- functions that give a vector; functions that give a table, and words that stand only where a rule of
--- their own says; whole statements
+-- their own says
 abbrev pub later_rows : List (List ℕ × Later)
 later_rows =
     (codes "cumsum", later.Vector) ∷ (codes "shift", later.Vector) ∷ (codes "rleid", later.Vector)
     ∷ (codes "frank", later.Vector)
     ∷ (codes "melt", later.NoVector) ∷ (codes "dcast", later.NoVector) ∷ (codes "foverlaps", later.NoVector)
-    ∷ (codes "key", later.NoVector) ∷ (codes "indices", later.NoVector) ∷ (codes "lapply", later.NoVector)
-    ∷ (codes "order", later.NoVector) ∷ (codes "J", later.NoVector)
-    ∷ (codes "set", later.Command) ∷ (codes "setkey", later.Command) ∷ (codes "setindex", later.Command)
-    ∷ (codes "setorder", later.Command) ∷ (codes "setnames", later.Command) ∷ (codes "options", later.Command)
-    ∷ []
+    ∷ (codes "lapply", later.NoVector) ∷ (codes "J", later.NoVector) ∷ []
 
 -- the language has a call of this name, and nothing serves it yet
 abbrev pub is_later : List ℕ → Bool

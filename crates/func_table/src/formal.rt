@@ -26,12 +26,32 @@ pub enum Formal {
     NewValue,
     Old,
     New,
+    /// The option `datatable.auto.index`.
+    AutoIndex,
+    /// The option `datatable.use.index`.
+    UseIndex,
 }
 
 /// The names of the arguments, in the order of the variants.
-static NAMES: [&str; 16] = [
-    "file", "name", "package", "table", "", "x", "test", "yes", "no", "na.rm", "D", "i", "j",
-    "value", "old", "new",
+static NAMES: [&str; 18] = [
+    "file",
+    "name",
+    "package",
+    "table",
+    "",
+    "x",
+    "test",
+    "yes",
+    "no",
+    "na.rm",
+    "D",
+    "i",
+    "j",
+    "value",
+    "old",
+    "new",
+    "datatable.auto.index",
+    "datatable.use.index",
 ];
 
 /// The name of the argument. It is empty where no script can name it.
@@ -45,12 +65,12 @@ pub fn formal_word(f: Formal) -> &'static str
 pub fn is_needed(f: Formal) -> bool
     ensures { result ≡ is_needed f }
 {
-    f != Formal::NaRm && f != Formal::I
+    !is_flag(f) && f != Formal::I
 }
 
 /// Whether the argument is a flag: TRUE or FALSE, as written.
 pub fn is_flag(f: Formal) -> bool
     ensures { result ≡ is_flag f }
 {
-    f == Formal::NaRm
+    matches!(f, Formal::NaRm | Formal::AutoIndex | Formal::UseIndex)
 }

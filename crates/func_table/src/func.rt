@@ -19,6 +19,17 @@ pub enum Func {
     Set,
     /// `setnames`
     SetNames,
+    /// `setkey`
+    SetKey,
+    /// `setorder`
+    SetOrder,
+    /// `setindex`
+    SetIndex,
+    /// `options`
+    SetOptions,
+    Key,
+    Indices,
+    Order,
     /// `c`
     Combine,
     /// `is.na`
@@ -41,36 +52,41 @@ pub enum Func {
     Names,
 }
 
-/// What a call is: it gives a new table, it is a whole statement, it gives a vector from vectors,
-/// or it gives a vector that tells of a table.
+/// What a call is: it gives a new table; it is a whole statement; it gives a vector from vectors,
+/// or one that tells of a table; it tells of a table's orders, as a whole statement's value alone;
+/// or it gives rows in an order, as the i of a bracket alone.
 #[derive(Clone, Copy, PartialEq, Eq)]
 pub enum Kind {
     Table,
     Command,
     Vector,
     Description,
+    Report,
+    Rows,
 }
 
-/// How arguments are bound: to formals; one or more of them as columns, whose names are free; or
-/// one or more of them, which have no names.
+/// How arguments are bound: to formals; one or more of them as columns, whose names are free; one
+/// or more of them, which have no names; to formals, with any number behind them, which have no
+/// names; or one or more of them to formals, each by its name.
 #[derive(Clone, Copy)]
 pub enum Arity {
     Fixed,
     Columns,
     Unnamed,
+    More,
+    Named,
 }
 
-/// What a call is that the language has and nothing serves yet: it gives a vector; it gives none,
-/// or stands only where a rule of its own says; or it is a whole statement.
+/// What a call is that the language has and nothing serves yet: it gives a vector; or it gives
+/// none, or stands only where a rule of its own says.
 #[derive(Clone, Copy)]
 pub enum Later {
     Vector,
     NoVector,
-    Command,
 }
 
 /// The functions by their words, in the order of the variants.
-static FUNCS: [(&str, Func); 26] = [
+static FUNCS: [(&str, Func); 33] = [
     ("data.table", Func::DataTable),
     ("fread", Func::Fread),
     ("copy", Func::Copy),
@@ -80,6 +96,13 @@ static FUNCS: [(&str, Func); 26] = [
     ("rm", Func::Rm),
     ("set", Func::Set),
     ("setnames", Func::SetNames),
+    ("setkey", Func::SetKey),
+    ("setorder", Func::SetOrder),
+    ("setindex", Func::SetIndex),
+    ("options", Func::SetOptions),
+    ("key", Func::Key),
+    ("indices", Func::Indices),
+    ("order", Func::Order),
     ("c", Func::Combine),
     ("is.na", Func::IsNa),
     ("fifelse", Func::Fifelse),
@@ -100,7 +123,7 @@ static FUNCS: [(&str, Func); 26] = [
 ];
 
 /// Their formals, in the same order and in that in which arguments are looked at.
-static FORMALS: [&[Formal]; 26] = [
+static FORMALS: [&[Formal]; 33] = [
     &[], // data.table
     &[Formal::File], // fread
     &[Formal::Table], // copy
@@ -110,6 +133,13 @@ static FORMALS: [&[Formal]; 26] = [
     &[Formal::Name], // rm
     &[Formal::D, Formal::I, Formal::J, Formal::NewValue], // set
     &[Formal::D, Formal::Old, Formal::New], // setnames
+    &[Formal::D], // setkey
+    &[Formal::D], // setorder
+    &[Formal::D], // setindex
+    &[Formal::AutoIndex, Formal::UseIndex], // options
+    &[Formal::D], // key
+    &[Formal::D], // indices
+    &[], // order
     &[], // c
     &[Formal::X], // is.na
     &[Formal::Test, Formal::Yes, Formal::No], // fifelse
@@ -130,7 +160,7 @@ static FORMALS: [&[Formal]; 26] = [
 ];
 
 /// The calls that nothing serves yet, with what they are.
-static LATER: [(&str, Later); 18] = [
+static LATER: [(&str, Later); 9] = [
     ("cumsum", Later::Vector),
     ("shift", Later::Vector),
     ("rleid", Later::Vector),
@@ -138,17 +168,8 @@ static LATER: [(&str, Later); 18] = [
     ("melt", Later::NoVector),
     ("dcast", Later::NoVector),
     ("foverlaps", Later::NoVector),
-    ("key", Later::NoVector),
-    ("indices", Later::NoVector),
     ("lapply", Later::NoVector),
-    ("order", Later::NoVector),
     ("J", Later::NoVector),
-    ("set", Later::Command),
-    ("setkey", Later::Command),
-    ("setindex", Later::Command),
-    ("setorder", Later::Command),
-    ("setnames", Later::Command),
-    ("options", Later::Command),
 ];
 
 /// The function of this name, where there is one.
@@ -172,7 +193,10 @@ pub fn kind_of(f: Func) -> Kind
     match f {
         Func::DataTable | Func::Fread | Func::Copy => Kind::Table,
         Func::Library | Func::Print | Func::Fwrite | Func::Rm => Kind::Command,
-        Func::Set | Func::SetNames => Kind::Command,
+        Func::Set | Func::SetNames | Func::SetKey | Func::SetOrder => Kind::Command,
+        Func::SetIndex | Func::SetOptions => Kind::Command,
+        Func::Key | Func::Indices => Kind::Report,
+        Func::Order => Kind::Rows,
         Func::Nrow | Func::Ncol | Func::Names => Kind::Description,
         _ => Kind::Vector,
     }
@@ -184,7 +208,9 @@ pub fn arity_of(f: Func) -> Arity
 {
     match f {
         Func::DataTable => Arity::Columns,
-        Func::Combine => Arity::Unnamed,
+        Func::Combine | Func::Order => Arity::Unnamed,
+        Func::SetKey | Func::SetOrder | Func::SetIndex => Arity::More,
+        Func::SetOptions => Arity::Named,
         _ => Arity::Fixed,
     }
 }

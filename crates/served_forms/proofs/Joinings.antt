@@ -1,14 +1,15 @@
 -- What the code names a join goes with what the definitions call it.
-use Rattle.std.proofs.Common.{rules, ◌≡◌, ◌∙◌, ℕ, Bool, true, false, if◌then◌else◌, List, Option, None, Some, Result, refl, sym, ap, subst}
+use Rattle.std.proofs.Common.{rules, ◌≡◌, ◌∙◌, ℕ, Bool, true, false, if◌then◌else◌, List, Option, None, Some, Result, map, refl, sym, ap, subst}
 use Rattle.dt_base.specs.declared.fault.Fault.{Fault}
+use Rattle.dt_tree.specs.declared.tree.Arg.{Arg}
 use Rattle.dt_tree.specs.declared.tree.Expr.{Expr, the_lemmas}
 use Rattle.dt_tree.specs.declared.tree.Expr.TheOpen.{Expr-F}
-use Rattle.dt_tree.specs.declared.tree.Expr.TheVariants.{Not}
+use Rattle.dt_tree.specs.declared.tree.Expr.TheVariants.{Call, Not}
 use Rattle.func_table.specs.Calls.{func_of, kind_of, is_list}
 use Rattle.func_table.specs.declared.func.Func.{Func}
 use Rattle.func_table.specs.declared.func.Kind.{Kind}
 use Rattle.func_table.specs.declared.func.Kind.TheVariants as kind
-use Rattle.session_model.specs.Meaning.{meaning, expr_step, call_joins, func_joins, kind_joins, call_gives, listing_of}
+use Rattle.session_model.specs.Meaning.{arg_meaning, meaning, expr_step, call_joins, func_joins, kind_joins, call_gives, listing_of}
 use Rattle.session_model.specs.Meanings.{ArgMeaning, Meaning}
 use Rattle.session_model.specs.Value.{Given, Scene}
 use Rattle.session_model.specs.Written.{Joining, NoJoin, TableJoin, ListJoin, turned, in_parens, is_join}
@@ -41,6 +42,8 @@ kind_alike kind.Table table = refl
 kind_alike kind.Command table = refl
 kind_alike kind.Vector table = refl
 kind_alike kind.Description table = refl
+kind_alike kind.Report table = refl
+kind_alike kind.Rows table = refl
 
 func_alike : (o : Option Func) (table : Scene → Result Given Fault) → joining_of (func_joins o table) ≡ joining_known o
 func_alike None table = refl
@@ -62,5 +65,14 @@ pub joins_Not : (e x : Expr) → e ≡ Not x → joining_of (meaning e).joins �
 joins_Not e x p =
     let P : Meaning → Type 0 = λ m. joining_of m.joins ≡ turned_round (joining_of (meaning x).joins) in
     subst P (sym (ap meaning p ∙ meaning-Not x)) (turned_alike (meaning x).joins)
+
+meaning-Call : (x : List ℕ) (args : List Arg) → meaning (Call x args) ≡ expr_step (Expr-F.Call x (map arg_meaning args))
+meaning-Call x args = search (rules, the_lemmas)
+
+pub joins_Call : (e : Expr) (x : List ℕ) (args : List Arg) → e ≡ Call x args
+    → joining_of (meaning e).joins ≡ joining_named x
+joins_Call e x args p =
+    ap (λ e. joining_of (meaning e).joins) p
+    ∙ (ap (λ m. joining_of m.joins) (meaning-Call x args) ∙ call_alike x (map arg_meaning args))
 
 pub ruleset alike = (turned_alike, in_parens_alike, call_alike)

@@ -1,9 +1,10 @@
-ghost use Rattle.std.specs.Prelude.{◌≡◌, map, option_map};
+ghost use Rattle.std.specs.Prelude.{◌≡◌, is_some, map, option_map};
 ghost use Rattle.std.specs.List.{list_all};
 ghost use Rattle.session_model.specs.Binding.{word_in};
+ghost use Rattle.session_model.specs.Form.{name_in};
 ghost use Rattle.session_model.specs.Meaning.{meaning, arg_meaning, tail_meaning, second_meaning};
 ghost use Rattle.session_model.specs.Meaning.{bracket_meaning, call_served};
-ghost use Rattle.session_model.specs.Served.{is_served_first, is_served_second};
+ghost use Rattle.session_model.specs.Served.{is_served_first, is_served_left, is_served_second};
 ghost use Rattle.session_model.specs.Served.{is_served_argument, bracket_served};
 
 use crate::joins::is_join;
@@ -117,9 +118,25 @@ fn is_served_second(second: &Option<Second>) -> bool
     match second {
         None => true,
         Some(Second::Value(j)) => is_served(j, true),
-        Some(Second::Assign { left, right }) => is_served(left, true) && is_served(right, true),
+        Some(Second::Assign { left, right }) => is_served_left(left) && is_served(right, true),
         Some(Second::AssignAll { args }) => are_served_values(args.as_slice(), true),
     }
+}
+
+/// Whether the expression is a bare name.
+#[tactic(auto, using(session_model::proofs::Forms::written))]
+fn is_bare_name(e: &Expr) -> bool
+    ensures { result ≡ is_some (name_in (meaning e.now).form) }
+{
+    matches!(e, Expr::Name { .. })
+}
+
+/// Whether a left side is served: a bare name is a column's, whatever it means elsewhere.
+#[cycle(served)]
+fn is_served_left(left: &Expr) -> bool
+    ensures { result ≡ is_served_left (meaning left.now) }
+{
+    is_bare_name(left) || is_served(left, true)
 }
 
 #[cycle(served)]

@@ -207,15 +207,15 @@ abbrev pub no_row_past : Bool → Result (Unit {0}) Fault
 no_row_past past = if past then Err (fault E19 (codes "i")) else Ok tt
 
 -- the warnings of i, of the values, and of bringing these to the columns' types
-abbrev pub gives_assigned : Warns → Assigned → Result Answer Fault
-gives_assigned warns a = Ok (record { outcome = gives.Assigned a.table; warns = both_warns warns a.warns })
+abbrev pub gives_assigned : List (List ℕ) → Warns → Assigned → Result Answer Fault
+gives_assigned names warns a = Ok (record { outcome = gives.Assigned names a.table; warns = both_warns warns a.warns })
 
 -- once all is valued; `chosen` tells whether there is an i
 abbrev pub values_assigned : Bool → PlainTable → Found → List (List ℕ) → RightValues → Result Answer Fault
 values_assigned chosen t r names v =
     then_do (no_row_past r.past) (λ _.
     then_do (assigned_by t (target_rows chosen r.places) names v)
-    (gives_assigned (both_warns r.warns (right_warns v))))
+    (gives_assigned names (both_warns r.warns (right_warns v))))
 
 -- once both sides are known
 abbrev pub sides_assigned : Bool → PlainTable → Vars → Found → List (List ℕ) → RightSide → Result Answer Fault

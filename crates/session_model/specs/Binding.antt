@@ -17,7 +17,7 @@ use Rattle.dt_base.specs.declared.fault.Code.TheVariants.{E19}
 use Rattle.dt_base.specs.Fault.{fault}
 use Rattle.func_table.specs.declared.func.Func.{Func}
 use Rattle.func_table.specs.declared.func.Arity.{Arity}
-use Rattle.func_table.specs.declared.func.Arity.TheVariants.{Fixed, Columns, Unnamed}
+use Rattle.func_table.specs.declared.func.Arity.TheVariants.{Fixed, Columns, Unnamed, More, Named}
 use Rattle.func_table.specs.declared.formal.Formal.{Formal}
 use Rattle.func_table.specs.Calls.{arity_of, formals_of, is_needed, name_of, word_of}
 use Rattle.vector_model.specs.Then.{then_do}
@@ -122,11 +122,24 @@ abbrev pub bound_unnamed : Func → ArgNames → Result (Unit {0}) Fault
 bound_unnamed f names =
     then_do (names_fine names [] 0 names) (λ _. counted f (length names == 0))
 
+-- To formals, with any number of arguments behind them, which have no names: there are never too many.
+abbrev pub bound_with_more : Func → ArgNames → Result (Unit {0}) Fault
+bound_with_more f names =
+    then_do (names_fine names (formals_of f) 0 names) (λ _. all_there f (places names 0 (formals_of f)))
+
+-- To formals by their names alone: one argument or more, and none without a name.
+abbrev pub bound_by_name : Func → ArgNames → Result (Unit {0}) Fault
+bound_by_name f names =
+    then_do (names_fine names (formals_of f) 0 names) (λ _.
+    counted f (nat_lt 0 (unnamed_count names) || length names == 0))
+
 -- As columns: one argument or more, whatever their names.
 abbrev pub bound_by : Arity → Func → ArgNames → Result (Unit {0}) Fault
 bound_by Fixed f names = bound_to_formals f names
 bound_by Columns f names = counted f (length names == 0)
 bound_by Unnamed f names = bound_unnamed f names
+bound_by More f names = bound_with_more f names
+bound_by Named f names = bound_by_name f names
 
 -- nothing, or the first fault of the binding
 abbrev pub bound : Func → ArgNames → Result (Unit {0}) Fault

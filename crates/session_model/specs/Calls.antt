@@ -29,7 +29,9 @@ use Rattle.session_model.specs.Expression.{names_in, arg_at}
 use Rattle.session_model.specs.Form.{Form, text_in, name_in}
 use Rattle.session_model.specs.Meanings.{Answer, Meaning, ArgMeaning}
 use Rattle.session_model.specs.Found.{vars_of}
+use Rattle.session_model.specs.Orders.{options_effect, set_index_effect, set_key_effect, set_order_effect}
 use Rattle.session_model.specs.Query.{value_after}
+use Rattle.session_model.specs.Set.{set_effect, set_names_effect}
 use Rattle.session_model.specs.Value.{Value, New, Null, Given, Scene, file_table, wanted_table, copied, plain_given}
 use Rattle.session_model.specs.Value.{printed_value}
 
@@ -120,6 +122,12 @@ command func.Fwrite args w =
 command func.Rm args w =
     then_do (argument args 0 formal.Name) (λ a.
     then_do (bare_name a.form) (λ name. removed_name name (finite.get w.state.names name)))
+command func.Set args w = set_effect args w.state
+command func.SetNames args w = set_names_effect args w.state
+command func.SetKey args w = set_key_effect args w.state
+command func.SetOrder args w = set_order_effect args w.state
+command func.SetIndex args w = set_index_effect args w.state
+command func.SetOptions args w = options_effect args w.options
 command _ args w = Err unbuilt
 
 -- a command's call: the faults of binding come first

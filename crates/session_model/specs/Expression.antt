@@ -20,7 +20,7 @@ use Rattle.dt_tree.specs.declared.tree.BinOp.{BinOp}
 use Rattle.func_table.specs.declared.formal.Formal.{Formal}
 use Rattle.func_table.specs.declared.formal.Formal.TheVariants as formal
 use Rattle.func_table.specs.declared.func.Arity.{Arity}
-use Rattle.func_table.specs.declared.func.Arity.TheVariants.{Fixed, Columns, Unnamed}
+use Rattle.func_table.specs.declared.func.Arity.TheVariants.{Fixed, Columns, Unnamed, More, Named}
 use Rattle.func_table.specs.declared.func.Func.{Func}
 use Rattle.func_table.specs.declared.func.Kind.{Kind}
 use Rattle.func_table.specs.declared.func.Kind.TheVariants as kind
@@ -149,19 +149,22 @@ abbrev pub later_fault : List ℕ → Option Later → Fault
 later_fault name None = fault E02 name
 later_fault name (Some later.Vector) = unbuilt
 later_fault name (Some later.NoVector) = fault E04 name
-later_fault name (Some later.Command) = fault E19 name
 
 -- a function on vectors, once its arguments are bound
 abbrev pub check_vectors : Arity → Env → Func → List ArgMeaning → Result ColType Fault
 check_vectors Unnamed s f args = then_do (each_argument (λ m. m.check s) args) (λ kinds. Ok (common_of kinds))
 check_vectors Fixed s f args = then_do (all_slots (λ m. m.check s) f args) (type_of f)
 check_vectors Columns s f args = Err unbuilt
+check_vectors More s f args = Err unbuilt
+check_vectors Named s f args = Err unbuilt
 
--- A table function is a fault of the type, and a command a bad argument, without a look at arguments.
--- Else the binding of arguments comes first.
+-- A table function is a fault of the type, and so is what gives a table's orders, or rows in an order; a
+-- command is a bad argument. None of these looks at its arguments. Else their binding comes first.
 abbrev pub check_kind : Kind → Env → Func → List ArgMeaning → Result ColType Fault
 check_kind kind.Table s f args = Err (fault E04 (word_of f))
 check_kind kind.Command s f args = Err (fault E19 (word_of f))
+check_kind kind.Report s f args = Err (fault E04 (word_of f))
+check_kind kind.Rows s f args = Err (fault E04 (word_of f))
 check_kind kind.Vector s f args = then_do (bound f (names_in args)) (λ _. check_vectors (arity_of f) s f args)
 check_kind kind.Description s f args =
     then_do (bound f (names_in args)) (λ _. then_do (described_table s args) (λ t. description_type f))
@@ -212,10 +215,14 @@ abbrev pub value_vectors : Arity → Env → Func → List ArgMeaning → Result
 value_vectors Unnamed s f args = then_do (each_argument (λ m. m.value s) args) combined
 value_vectors Fixed s f args = then_do (all_slots (λ m. m.value s) f args) (applied f)
 value_vectors Columns s f args = Err unbuilt
+value_vectors More s f args = Err unbuilt
+value_vectors Named s f args = Err unbuilt
 
 abbrev pub value_kind : Kind → Env → Func → List ArgMeaning → Result Valued Fault
 value_kind kind.Table s f args = Err (fault E04 (word_of f))
 value_kind kind.Command s f args = Err (fault E19 (word_of f))
+value_kind kind.Report s f args = Err (fault E04 (word_of f))
+value_kind kind.Rows s f args = Err (fault E04 (word_of f))
 value_kind kind.Vector s f args = then_do (bound f (names_in args)) (λ _. value_vectors (arity_of f) s f args)
 value_kind kind.Description s f args =
     then_do (bound f (names_in args)) (λ _. then_do (described_table s args) (λ t. quiet (description_of f t)))

@@ -1,5 +1,6 @@
 pub mod Asked
 pub mod Assigned
+pub mod AutoIndex
 pub mod Binding
 pub mod Calls
 pub mod Columns
@@ -8,9 +9,13 @@ pub mod Evaluation
 pub mod Expression
 pub mod Form
 pub mod Found
+pub mod Indices
 pub mod Items
 pub mod Meaning
 pub mod Meanings
+pub mod NamedTable
+pub mod OrderColumns
+pub mod Orders
 pub mod Query
 pub mod Second
 pub mod Served

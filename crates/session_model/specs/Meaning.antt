@@ -38,6 +38,7 @@ use Rattle.vector_model.specs.Functions.{Valued}
 use Rattle.vector_model.specs.Then.{then_do}
 use Rattle.expr_model.specs.Operators.{sign_type}
 use Rattle.expr_model.specs.Surroundings.{Env, one_cell, name_vector, outside}
+use Rattle.session_model.specs.AutoIndex.{indexed_given}
 use Rattle.session_model.specs.Binding.{bound}
 use Rattle.session_model.specs.Calls.{table_call, command_named}
 use Rattle.session_model.specs.Expression.{quiet, kind_in, signed, check_tails, value_tails, check_call, value_call}
@@ -48,6 +49,7 @@ use Rattle.session_model.specs.Meanings.{Meaning, ArgMeaning, TailMeaning, Secon
 use Rattle.session_model.specs.Meanings.{AssignsAll, BracketMeaning}
 use Rattle.session_model.specs.Found.{vars_of}
 use Rattle.session_model.specs.Items.{bare_item, item_of}
+use Rattle.session_model.specs.Orders.{report}
 use Rattle.session_model.specs.Query.{chained}
 use Rattle.session_model.specs.Served.{bracket_served}
 use Rattle.session_model.specs.Value.{Cells, Null, Given, Scene, gives_value, bound_value, plain_given}
@@ -68,6 +70,10 @@ abbrev pub vector_gives : (Env → Result ColType Fault) → (Env → Result Val
 vector_gives check value w =
     then_do (check (outside (vars_of w.state))) (λ _. then_do (value (outside (vars_of w.state))) vector_given)
 
+-- a statement adds no index
+abbrev pub no_index : Scene → Given → Given
+no_index w g = g
+
 -- an expression that is a vector wherever it stands
 abbrev pub vector : Form → List (List ℕ) → (Bool → Bool) → (Env → Result ColType Fault) → (Env → Result Valued Fault)
     → Meaning
@@ -84,6 +90,7 @@ vector form mentions served check value =
       probe = None;
       gives = vector_gives check value;
       whole = vector_gives check value;
+      indexed = no_index;
       command = None;
     }
 
@@ -171,6 +178,15 @@ kind_gives kind.Command name f args w = Err (fault E19 (word_of f))
 kind_gives kind.Table name f args w = then_do (bound f (names_in args)) (λ _. table_call f args w)
 kind_gives _ name f args w = call_given name args w
 
+-- what tells of a table's orders is a whole statement's value alone
+abbrev pub kind_whole : Kind → List ℕ → Func → List ArgMeaning → Scene → Result Given Fault
+kind_whole kind.Report name f args w = then_do (bound f (names_in args)) (λ _. report f args w.state)
+kind_whole k name f args w = kind_gives k name f args w
+
+abbrev pub call_whole : List ℕ → Option Func → List ArgMeaning → Scene → Result Given Fault
+call_whole name None args w = call_given name args w
+call_whole name (Some f) args w = kind_whole (kind_of f) name f args w
+
 abbrev pub call_gives : List ℕ → Option Func → List ArgMeaning → Scene → Result Given Fault
 call_gives name None args w = call_given name args w
 call_gives name (Some f) args w = kind_gives (kind_of f) name f args w
@@ -208,7 +224,8 @@ call_of name args =
       mentions = call_mentions (func_of name) args;
       probe = None;
       gives = call_gives name (func_of name) args;
-      whole = call_gives name (func_of name) args;
+      whole = call_whole name (func_of name) args;
+      indexed = no_index;
       command = command_named (func_of name) args;
     }
 
@@ -228,6 +245,7 @@ name_of name =
       probe = None;
       gives = λ w. bound_value name (finite.get w.state.names name);
       whole = λ w. bound_value name (finite.get w.state.names name);
+      indexed = no_index;
       command = None;
     }
 
@@ -245,6 +263,7 @@ literal_of kind cell =
       probe = None;
       gives = λ w. gives_value (Cells (one_cell kind cell));
       whole = λ w. gives_value (Cells (one_cell kind cell));
+      indexed = no_index;
       command = None;
     }
 
@@ -253,7 +272,7 @@ abbrev pub null_word : Meaning
 null_word = record (refused NullWord (codes "NULL")) { gives = λ w. gives_value Null; whole = λ w. gives_value Null }
 
 -- Parentheses hide the form, and let through what is wanted as a statement's value, a head, and a table,
--- also one to join with.
+-- also one to join with. A statement in parentheses adds no index.
 abbrev pub paren_of : Meaning → Meaning
 paren_of inner =
     record {
@@ -268,6 +287,7 @@ paren_of inner =
       probe = None;
       gives = inner.gives;
       whole = inner.whole;
+      indexed = no_index;
       command = None;
     }
 
@@ -283,6 +303,7 @@ query_of head brackets =
       served = λ inside. head.served inside && list_all bracket_served brackets;
       gives = query_gives head brackets;
       whole = query_gives head brackets;
+      indexed = indexed_given head brackets;
     }
 
 -- ---- The fold

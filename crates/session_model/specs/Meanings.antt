@@ -20,12 +20,13 @@ use Rattle.session_model.specs.Form.{Form}
 use Rattle.session_model.specs.Value.{Given, Scene}
 use Rattle.session_model.specs.Written.{Joining, Listing, Probe}
 
--- what one bracket gives; by an assignment the table before it becomes another
+-- What one bracket gives. By an assignment the table before it becomes another, and these of its columns
+-- are assigned to.
 pub data Outcome : Type 0 where
   Same : Outcome
   Table : PlainTable → Outcome
   Vector : Cells → Outcome
-  Assigned : PlainTable → Outcome
+  Assigned : List (List ℕ) → PlainTable → Outcome
 
 pub record Answer : Type 0 where
   pub outcome : Outcome
@@ -43,6 +44,7 @@ pub record Answer : Type 0 where
 --   probe     a column beside a value, if it is that
 --   gives     what it gives as a head, and where a table is wanted
 --   whole     what it gives as a statement's value
+--   indexed   that value, where the statement is this expression itself: with the index that it adds
 --   command   what it does as a whole statement, with a name to assign to or none, if it is a command
 pub record Meaning : Type 0 where
   pub form : Form
@@ -56,6 +58,7 @@ pub record Meaning : Type 0 where
   pub probe : Option Probe
   pub gives : Scene → Result Given Fault
   pub whole : Scene → Result Given Fault
+  pub indexed : Scene → Given → Given
   pub command : Option (Option (List ℕ) → Scene → Result Effect Fault)
 
 -- an argument

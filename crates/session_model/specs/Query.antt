@@ -27,7 +27,7 @@ use Rattle.session_model.specs.Found.{found, vars_of}
 use Rattle.session_model.specs.Meanings.{Outcome, Same, Answer, ArgMeaning, BracketMeaning}
 use Rattle.session_model.specs.Meanings as gives
 use Rattle.session_model.specs.Second.{second_answer}
-use Rattle.session_model.specs.Value.{Value, Numbered, New, Cells, Null, Given, numbered_table}
+use Rattle.session_model.specs.Value.{Alteration, Value, Numbered, New, Cells, Null, Given, numbered_table}
 use Rattle.session_model.specs.Written.{Item}
 
 -- ---- One bracket
@@ -79,16 +79,16 @@ abbrev pub value_after : Value → Outcome → Value
 value_after v Same = v
 value_after v (gives.Table t) = New t
 value_after v (gives.Vector x) = Cells x
-value_after v (gives.Assigned t) = value_assigned v t
+value_after v (gives.Assigned names t) = value_assigned v t
 
 -- what an assignment alters: the table that has a number
-abbrev pub altered : Value → Outcome → Option (ℕ × PlainTable)
-altered (Numbered n) (gives.Assigned t) = Some (n, t)
+abbrev pub altered : Value → Outcome → Option Alteration
+altered (Numbered n) (gives.Assigned names t) = Some (record { number = n; names = names; table = t })
 altered _ _ = None
 
 -- what an assignment gives is not shown
 abbrev pub is_shown : Outcome → Bool
-is_shown (gives.Assigned t) = false
+is_shown (gives.Assigned names t) = false
 is_shown _ = true
 
 abbrev pub given_after : Given → Answer → Result Given Fault

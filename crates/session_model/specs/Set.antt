@@ -1,6 +1,4 @@
 -- What the commands `set` and `setnames` do.
---   argument_for args before p   the argument that the formal p takes, behind these formals
---   named_table s name     the number and the table of the argument D
 --   rows_named n v         the rows of n that a vector of places names
 --   names_named names v    the columns that a vector of names, or of places, names
 --   set_effect args s      what `set` does in a state
@@ -12,24 +10,22 @@ use Rattle.std.specs.Prelude.{ℕ, ◌-◌, ◌==◌, pos, nat_le, not, Bool, tr
 use Rattle.std.specs.Prelude.{map, Option, None, Some, Result, Ok, Err, is_none, if◌then◌else◌}
 use Rattle.std.specs.List.{list_any, range_with_len}
 use Rattle.std.specs.Str.{bytes_eq}
-use Rattle.std.specs.FinMap as finite
 use Rattle.dt_base.specs.declared.cell.Cell.{Cell}
 use Rattle.dt_base.specs.declared.cell.Cell.TheVariants as is
 use Rattle.dt_base.specs.declared.cell.ColType.{ColType}
 use Rattle.dt_base.specs.declared.cell.ColType.TheVariants as ty
 use Rattle.dt_base.specs.declared.fault.Fault.{Fault}
-use Rattle.dt_base.specs.declared.fault.Code.TheVariants.{E02, E03, E12, E19, E20}
+use Rattle.dt_base.specs.declared.fault.Code.TheVariants.{E03, E12, E19}
 use Rattle.dt_base.specs.Fault.{fault}
 use Rattle.dt_base.specs.declared.warns.Warns.{Warns}
 use Rattle.dt_base.specs.Warns.{both_warns}
-use Rattle.dt_model.specs.State.{State, Bound}
-use Rattle.dt_model.specs.State.{Table as NumberedTable, Vector as BoundVector}
+use Rattle.dt_model.specs.State.{State}
 use Rattle.dt_model.specs.Table.{ColumnHead, PlainTable, first_repeated, is_repeated, name_at, place_of as first_place}
 use Rattle.dt_model.specs.Vector.{Vector}
 use Rattle.func_table.specs.declared.formal.Formal.{Formal}
 use Rattle.func_table.specs.declared.formal.Formal.TheVariants as formal
 use Rattle.func_table.specs.Calls.{name_of}
-use Rattle.vector_model.specs.Faults.{length_fault, unbuilt}
+use Rattle.vector_model.specs.Faults.{length_fault}
 use Rattle.vector_model.specs.Functions.{Valued}
 use Rattle.vector_model.specs.Then.{then_do}
 use Rattle.assign_model.specs.Assign.{Assigned, names_in as columns_of}
@@ -38,38 +34,13 @@ use Rattle.expr_model.specs.Surroundings.{Env, outside}
 use Rattle.session_model.specs.Assigned.{RightSide, RightValues, assigned_by, check_right, is_null, right_side}
 use Rattle.session_model.specs.Assigned.{right_warns}
 use Rattle.session_model.specs.Assigned.{value_right}
-use Rattle.session_model.specs.Binding.{free_count, place_of}
-use Rattle.session_model.specs.Effect.{Change, Effect, Nothing, changes_with}
-use Rattle.session_model.specs.Expression.{arg_at, each, names_in}
-use Rattle.session_model.specs.Form.{name_in}
+use Rattle.session_model.specs.Effect.{Effect, changes_with}
+use Rattle.session_model.specs.Expression.{each}
 use Rattle.session_model.specs.Found.{vars_of}
 use Rattle.session_model.specs.Meanings.{ArgMeaning, Meaning}
-use Rattle.session_model.specs.Value.{numbered_table}
+use Rattle.session_model.specs.NamedTable.{argument_for, needed, table_change, table_named}
 
--- ---- Arguments
-
--- the argument that a formal takes, where these formals stand before it
-abbrev pub argument_for : List ArgMeaning → List Formal → Formal → Option ArgMeaning
-argument_for args before p = arg_at args (place_of (names_in args) (free_count (names_in args) before) p)
-
--- the argument D is a name as written, which is bound to a table
-abbrev pub bound_table : State → List ℕ → Option Bound → Result (ℕ × PlainTable) Fault
-bound_table s name None = Err (fault E02 name)
-bound_table s name (Some (BoundVector v)) = Err (fault E20 name)
-bound_table s name (Some (NumberedTable n)) = Ok (n, numbered_table s n)
-
-abbrev pub named_table : State → Option (List ℕ) → Result (ℕ × PlainTable) Fault
-named_table s None = Err (fault E19 (name_of formal.D))
-named_table s (Some name) = bound_table s name (finite.get s.names name)
-
-abbrev pub bare_name_of : Option ArgMeaning → Option (List ℕ)
-bare_name_of None = None
-bare_name_of (Some a) = name_in a.means.form
-
--- a call whose arguments are bound has one for each needed formal
-abbrev pub needed : Option ArgMeaning → Result Meaning Fault
-needed None = Err unbuilt
-needed (Some a) = Ok a.means
+-- ---- Types of arguments
 
 -- the type of an argument is one of those that are wanted
 abbrev pub of_type : Formal → (ColType → Bool) → Env → Meaning → Result (Unit {0}) Fault
@@ -133,10 +104,6 @@ abbrev pub rows_warns : Option Valued → Warns → Warns
 rows_warns None warns = warns
 rows_warns (Some v) warns = both_warns v.warns warns
 
--- the table of this number becomes another
-abbrev pub table_change : ℕ → PlainTable → Change
-table_change n t = record { table = Some (n, t); name = Nothing; options = None }
-
 -- what is set, for the rows and columns that are named
 abbrev pub set_table : PlainTable → Option Valued → Vector → RightValues → Result Assigned Fault
 set_table t rows columns v =
@@ -173,7 +140,7 @@ set_sides s x i j value = then_do (set_checked s i j value) (set_valued s x i j)
 
 abbrev pub set_effect : List ArgMeaning → State → Result Effect Fault
 set_effect args s =
-    then_do (named_table s (bare_name_of (argument_for args [] formal.D))) (λ x.
+    then_do (table_named args s) (λ x.
     then_do (needed (argument_for args (formal.D ∷ formal.I ∷ []) formal.J)) (λ j.
     then_do (needed (argument_for args (formal.D ∷ formal.I ∷ formal.J ∷ []) formal.NewValue)) (λ value.
     set_sides (outside (vars_of s)) x (row_side (argument_for args (formal.D ∷ []) formal.I)) j value)))
@@ -259,7 +226,7 @@ set_names_sides s x old new =
 
 abbrev pub set_names_effect : List ArgMeaning → State → Result Effect Fault
 set_names_effect args s =
-    then_do (named_table s (bare_name_of (argument_for args [] formal.D))) (λ x.
+    then_do (table_named args s) (λ x.
     then_do (needed (argument_for args (formal.D ∷ []) formal.Old)) (λ old.
     then_do (needed (argument_for args (formal.D ∷ formal.Old ∷ []) formal.New)) (λ new.
     set_names_sides (outside (vars_of s)) x old new)))

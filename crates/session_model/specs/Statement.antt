@@ -10,23 +10,30 @@ use Rattle.dt_base.specs.declared.fault.Code.TheVariants.{E19}
 use Rattle.dt_base.specs.Fault.{fault}
 use Rattle.dt_model.specs.State.{State}
 use Rattle.dt_model.specs.State.{Table as NumberedTable, Vector as BoundVector}
+use Rattle.dt_model.specs.Table.{PlainTable}
 use Rattle.dt_tree.specs.declared.tree.Stmt.{Stmt}
 use Rattle.vector_model.specs.Then.{then_do}
-use Rattle.session_model.specs.Value.{Value, Numbered, New, Cells, Null, Given, Look, Scene, printed_value}
+use Rattle.session_model.specs.Value.{Alteration, Value, Numbered, New, Cells, Null, Given, Look, Scene}
+use Rattle.session_model.specs.Value.{printed_value}
 use Rattle.session_model.specs.Effect.{Effect, Change, NameChange, Nothing, BindNew, Bind, changes_with, tabled}
 use Rattle.session_model.specs.Session.{SessionState}
 use Rattle.vector_model.specs.Faults.{unbuilt}
 use Rattle.session_model.specs.Meaning.{meaning}
 use Rattle.session_model.specs.Meanings.{Meaning}
 
+-- the table that a value alters, by its number
+abbrev pub altered_table : Option Alteration → Option (ℕ × PlainTable)
+altered_table None = None
+altered_table (Some a) = Some (a.number, a.table)
+
 -- what a value that is given no name prints: itself, where it is shown, in the state in which the table that
 -- it alters is altered
 abbrev pub shown_text : State → Given → List ℕ
-shown_text s g = if g.shown then printed_value (tabled s g.alters) g.value else []
+shown_text s g = if g.shown then printed_value (tabled s (altered_table g.alters)) g.value else []
 
 -- the table that a value alters is the change
 abbrev pub altering : Given → NameChange → Change
-altering g c = record { table = g.alters; name = c; options = None }
+altering g c = record { table = altered_table g.alters; name = c; options = None }
 
 abbrev pub bare : State → Given → Result Effect Fault
 bare s g = Ok (record { text = shown_text s g; file = None; warns = g.warns; change = altering g Nothing })
@@ -42,10 +49,14 @@ value_change name Null = Err (fault E19 name)
 abbrev pub assigned : List ℕ → Given → Result Effect Fault
 assigned name g = then_do (value_change name g.value) (λ c. Ok (changes_with (altering g c) g.warns))
 
--- a statement whose expression is a value
+-- what a value does, by itself or with a name
+abbrev pub value_effect : Option (List ℕ) → State → Given → Result Effect Fault
+value_effect None s g = bare s g
+value_effect (Some name) s g = assigned name g
+
+-- a statement whose expression is a value, with the index that it adds
 abbrev pub value_step : Option (List ℕ) → Meaning → Scene → Result Effect Fault
-value_step None m w = then_do (m.whole w) (bare w.state)
-value_step (Some name) m w = then_do (m.whole w) (assigned name)
+value_step target m w = then_do (m.whole w) (λ g. value_effect target w.state (m.indexed w g))
 
 -- a command does what it does; of anything else the value counts
 abbrev pub step_of : Option (Option (List ℕ) → Scene → Result Effect Fault) → Option (List ℕ) → Meaning → Scene

@@ -1,5 +1,6 @@
 -- Values, and the tables that functions make.
 --   Value               a table that has a number, a new table, a vector, or NULL
+--   Alteration          what becomes of a table that has a number
 --   Given               a value, its warnings, the table that it alters, and whether it is shown
 --   plain_given v w     a value that alters nothing, with these warnings
 --   Scene               the files, the state and the options that a statement meets
@@ -38,12 +39,19 @@ pub data Value : Type 0 where
   Cells : Vector → Value
   Null : Value
 
--- A value and the warnings that it comes with. What it alters is a table, by its number, that becomes
--- another when the statement is done. A value that is shown prints where it is given no name.
+-- The table of this number becomes another when the statement is done, and these of its columns are
+-- assigned to.
+pub record Alteration : Type 0 where
+  pub number : ℕ
+  pub names : List (List ℕ)
+  pub table : PlainTable
+
+-- A value and the warnings that it comes with, and the table that it alters. A value that is shown prints
+-- where it is given no name.
 pub record Given : Type 0 where
   pub value : Value
   pub warns : Warns
-  pub alters : Option (ℕ × PlainTable)
+  pub alters : Option Alteration
   pub shown : Bool
 
 -- a value that alters nothing

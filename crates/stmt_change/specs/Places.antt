@@ -15,6 +15,7 @@ without_columns = record {
   indices = [];
   slots = 0;
   spare = 0;
+  index_room = 0;
 }
 
 abbrev pub table_in : Option Numbered → TableSeen

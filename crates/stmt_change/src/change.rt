@@ -1,26 +1,50 @@
 ghost use Rattle.std.specs.Prelude.{◌≡◌};
-ghost use Rattle.stmt_change.specs.Effects.{names_change, no_change};
+ghost use Rattle.stmt_change.specs.Effects.{changes_options, changes_table, names_change};
+ghost use Rattle.stmt_change.specs.Effects.{no_change};
 
 use dt_base::{ColName, Text};
-use dt_table::Table;
+use dt_table::{Index, Table};
 use func_table::Options;
 use na_vector::Column;
 use table_heap::Id;
+
+/// A change of a table that names are bound to: it gets an index behind its others, where there is
+/// one; then columns are written, replaced, added or deleted, where there is such a change.
+#[derive(Drop)]
+pub struct Altered {
+    pub id: Id,
+    pub index: Option<Index>,
+    pub parts: Option<dt_table::Change>,
+}
 
 /// How a table that has a name becomes another, under all its names.
 #[derive(Drop)]
 pub enum TableChange {
     Nothing,
-    /// Columns are written, replaced, added or deleted.
-    Parts {
-        id: Id,
-        parts: dt_table::Change,
-    },
+    Altered(Altered),
     /// These columns get these names, in the order of both lists.
     Rename {
         id: Id,
         cols: Vec<usize>,
         names: Vec<ColName>,
+    },
+    /// The rows stand in another order: another table is in its place.
+    Reordered {
+        id: Id,
+        table: Table,
+    },
+    /// The rows stand as they stood; this is the key, and all indices go.
+    Keyed {
+        id: Id,
+        key: Vec<usize>,
+    },
+    /// The key is forgotten.
+    Unkeyed {
+        id: Id,
+    },
+    /// All indices go.
+    Unindexed {
+        id: Id,
     },
 }
 
@@ -52,6 +76,28 @@ impl Change {
         ensures { result ≡ no_change }
     {
         Change::of_name(NameChange::Nothing)
+    }
+
+    /// A table changes.
+    pub fn of_table(table: TableChange) -> Change
+        ensures { result ≡ changes_table table }
+    {
+        Change {
+            table,
+            name: NameChange::Nothing,
+            options: None,
+        }
+    }
+
+    /// The options change.
+    pub fn of_options(options: Options) -> Change
+        ensures { result ≡ changes_options options }
+    {
+        Change {
+            table: TableChange::Nothing,
+            name: NameChange::Nothing,
+            options: Some(options),
+        }
     }
 
     /// A name changes.

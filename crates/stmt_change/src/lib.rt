@@ -13,5 +13,5 @@
 mod change;
 mod effect;
 
-pub use change::{Change, NameChange, TableChange};
+pub use change::{Altered, Change, NameChange, TableChange};
 pub use effect::{Effect, Written};

@@ -1,2 +1,2 @@
 pub mod Alterations
-pub mod Refused
+pub mod Indexed

@@ -1,11 +1,12 @@
 ghost use Rattle.std.specs.Prelude.{◌≡◌, IfErr, IfOk, option_map};
 ghost use Rattle.eval_fail.specs.Answers.{AnswersAs, IsOwn};
-ghost use Rattle.session_model.specs.Statement.{value_change, assigned};
+ghost use Rattle.session_model.specs.Statement.{altered_table, assigned, value_change};
 ghost use Rattle.session_model.specs.Value as value;
 ghost use Rattle.stmt_change.specs.Effects.{plain_effect, plain_name, plain_table};
 ghost use Rattle.stmt_change.specs.Effects.{FitsIn, FitsNameIn, FitsTableIn};
-ghost use Rattle.stmt_value.specs.Values.{plain_altered, plain_given, plain_value};
-ghost use Rattle.stmt_value.specs.Values.{IsAlteredIn, IsGivenIn, IsValueIn};
+ghost use Rattle.stmt_change.specs.Altered.{plain_altered};
+ghost use Rattle.stmt_value.specs.Values.{plain_given, plain_value};
+ghost use Rattle.stmt_value.specs.Values.{IsAlteredIn, IsIndexedIn, IsValueIn};
 ghost use Rattle.stmt_value.specs.declared.given.Value.{Value};
 ghost use Rattle.table_heap.specs.Seen.{HeapSeen};
 
@@ -57,11 +58,12 @@ fn value_change<L: Ledger>(
 
 /// The table that a value alters, as a change.
 pub fn table_change(altered: Option<Altered>) -> TableChange
-    ensures table { (h : HeapSeen) → plain_table h result ≡ option_map (plain_altered h) altered }
+    ensures table { (h : HeapSeen) → plain_table h result
+        ≡ altered_table (option_map (plain_altered h) altered) }
     ensures fits { (h : HeapSeen) (v : Value) → IsAlteredIn h v altered → FitsTableIn h result }
 {
     match altered {
-        Some(Altered { id, parts }) => TableChange::Parts { id, parts },
+        Some(altered) => TableChange::Altered(altered),
         None => TableChange::Nothing,
     }
 }
@@ -75,7 +77,8 @@ pub fn assigned<L: Ledger>(
 ) -> Result<Effect, EvalFail>
     ensures answer { (h : HeapSeen)
         → AnswersAs (plain_effect h) (assigned name.now (plain_given h given.entry)) result }
-    ensures fits { (h : HeapSeen) → IsGivenIn h given.entry → IfOk result (λ e. FitsIn h e.change) }
+    ensures fits { (h : HeapSeen) → IsIndexedIn h given.entry
+        → IfOk result (λ e. FitsIn h e.change) }
     ensures own { IfErr result IsOwn }
 {
     let Given {

@@ -11,19 +11,22 @@ ghost use Rattle.session_model.specs.Effect as model;
 ghost use Rattle.session_model.specs.Expression.{names_in};
 ghost use Rattle.session_model.specs.Meaning.{meaning, arg_meaning};
 ghost use Rattle.stmt_change.specs.Effects.{plain_effect, FitsIn};
-ghost use Rattle.stmt_effect.specs.Does.{Does};
-ghost use Rattle.stmt_effect.specs.Commands.{library_named, removed_by};
+ghost use Rattle.stmt_effect.specs.Does.{Does, session_of};
+ghost use Rattle.stmt_effect.specs.Commands.{library_named, removed_by, table_command};
 ghost use Rattle.stmt_value.specs.Values.{plain_given, IsValueIn};
 ghost use Rattle.table_heap.specs.State.{state_of};
 
 use crate::printed::printed;
 use arg_bind::{bare_name, next};
+use cmd_assign::{set, set_names};
+use cmd_order::{set_index, set_key, set_options, set_order};
 use csv_edge::write_table;
 use dt_base::{Code, Steps, Text, Warns};
 use dt_table::Table;
 use dt_tree::{Arg, Expr};
 use dt_world::Files;
-use eval_fail::{EvalFail, stop};
+use eval_fail::{EvalFail, stop, stop_unbuilt};
+use file_value::unread;
 use func_table::{Formal, Func};
 use std::alloc::{AllocError, Global};
 use std::sync::ledger::Ledger;
@@ -218,6 +221,36 @@ pub fn command<F: Files, L: Ledger>(
         Func::Print => print(alloc, args, setting, files, steps),
         Func::Fwrite => fwrite(alloc, args, setting, files, steps),
         Func::Rm => Ok(rm(alloc, args, setting)?),
+        Func::Set | Func::SetNames | Func::SetKey | Func::SetOrder => {
+            unread(table_command(alloc, f, args, setting, steps))
+        }
+        Func::SetIndex | Func::SetOptions => {
+            unread(table_command(alloc, f, args, setting, steps))
+        }
         _ => Err(refusal_unbuilt(alloc)),
+    }
+}
+
+/// What a command does that changes a table, or the options.
+fn table_command<L: Ledger>(
+    alloc: Global,
+    f: Func,
+    args: &[Arg],
+    setting: &Setting<'_>,
+    steps: &mut Steps<L>,
+) -> Result<Effect, EvalFail>
+    ensures answer { AnswersAs (plain_effect setting.now.heap.now)
+        (table_command f (map arg_meaning args.now) (session_of setting.now)) result }
+    ensures fits { IfOk result (λ e. FitsIn setting.now.heap.now e.change) }
+    ensures own { IfErr result IsOwn }
+{
+    match f {
+        Func::Set => set(alloc, args, setting, steps),
+        Func::SetNames => set_names(alloc, args, setting, steps),
+        Func::SetKey => set_key(alloc, args, setting, steps),
+        Func::SetOrder => set_order(alloc, args, setting, steps),
+        Func::SetIndex => set_index(alloc, args, setting, steps),
+        Func::SetOptions => set_options(alloc, args, setting),
+        _ => Err(stop_unbuilt(alloc)),
     }
 }

@@ -1,14 +1,17 @@
-ghost use Rattle.std.specs.Prelude.{◌≡◌, IfErr, IfOk, Ok};
+ghost use Rattle.std.specs.Prelude.{◌≡◌, IfErr, IfOk, Ok, Some};
 ghost use Rattle.dt_table.specs.Change.{FitsTable};
 ghost use Rattle.dt_table.specs.Plain.{plain_changed};
 ghost use Rattle.eval_fail.specs.Answers.{AnswersAs, IsOwn};
 ghost use Rattle.session_model.specs.Calls.{printed_given};
-ghost use Rattle.session_model.specs.Statement.{bare, shown_text};
+ghost use Rattle.session_model.specs.Effect.{tabled};
+ghost use Rattle.session_model.specs.Statement.{altered_table, bare, shown_text};
 ghost use Rattle.session_model.specs.Value.{printed_plain, printed_value};
 ghost use Rattle.stmt_change.specs.Effects.{plain_effect, FitsIn};
 ghost use Rattle.stmt_change.specs.Places.{table_at};
 ghost use Rattle.stmt_effect.specs.Commands.{value_printed};
-ghost use Rattle.stmt_value.specs.Values.{plain_value, plain_given, IsGivenIn, IsValueIn};
+ghost use Rattle.stmt_change.specs.Altered.{plain_altered};
+ghost use Rattle.stmt_value.specs.Values.{plain_given, plain_value};
+ghost use Rattle.stmt_value.specs.Values.{IsAlteredIn, IsIndexedIn, IsValueIn};
 ghost use Rattle.table_heap.specs.Seen.{IsAt};
 ghost use Rattle.table_heap.specs.State.{state_of};
 
@@ -20,7 +23,8 @@ use std::alloc::{AllocError, Global};
 use std::sync::ledger::Ledger;
 use stmt_change::{Change, Effect, NameChange};
 use stmt_value::{Altered, Given, Value};
-use table_heap::Heap;
+use table_argument::table_of;
+use table_heap::{Heap, Id};
 
 /// How a value prints.
 fn value_text<L: Ledger>(
@@ -42,22 +46,46 @@ fn value_text<L: Ledger>(
     }
 }
 
-/// How a table that is altered prints: as it is then.
+/// How a table prints that is changed: as it is then.
+fn changed_text<L: Ledger>(
+    alloc: Global,
+    id: Id,
+    parts: &dt_table::Change,
+    heap: &Heap,
+    steps: &mut Steps<L>,
+) -> Result<Vec<u8>, AllocError>
+    requires live { IsAt heap.now id }
+    requires fits { FitsTable (table_at heap.now id) parts.now }
+    ensures { IfOk result (λ v.
+        v.items ≡ printed_plain (plain_changed (table_at heap.now id) parts.now)) }
+{
+    let table = heap.table(id);
+    let changed = table.preview(alloc, parts, steps)?;
+    table_text(alloc, &changed, steps)
+}
+
+/// How a value prints that alters a table: the table as it is then, where its columns are changed,
+/// and else the value. An index does not show.
 fn altered_text<L: Ledger>(
     alloc: Global,
+    value: &Value<'_>,
     altered: &Altered,
     heap: &Heap,
     steps: &mut Steps<L>,
 ) -> Result<Vec<u8>, AllocError>
-    requires live { IsAt heap.now altered.now.id }
-    requires fits { FitsTable (table_at heap.now altered.now.id) altered.now.parts }
-    ensures { IfOk result (λ v.
-        v.items ≡ printed_plain
-        (plain_changed (table_at heap.now altered.now.id) altered.now.parts)) }
+    requires live { IsValueIn heap.now value.now }
+    requires altered { IsAlteredIn heap.now value.now (Some altered.now) }
+    ensures { IfOk result (λ v. v.items ≡ printed_value
+        (tabled (state_of heap.now) (altered_table (Some (plain_altered heap.now altered.now))))
+        (plain_value value.now)) }
 {
-    let table = heap.table(altered.id);
-    let changed = table.preview(alloc, &altered.parts, steps)?;
-    table_text(alloc, &changed, steps)
+    match &altered.parts {
+        Some(parts) => changed_text(alloc, altered.id, parts, heap, steps),
+        None => {
+            let _table = table_of(heap, altered.id);
+            value_text(alloc, value, heap, steps)
+        }
+    }
 }
 
 /// What a value that is given no name prints: itself where it is shown, else nothing.
@@ -67,7 +95,7 @@ fn shown_text<L: Ledger>(
     heap: &Heap,
     steps: &mut Steps<L>,
 ) -> Result<Vec<u8>, AllocError>
-    requires { IsGivenIn heap.now given.now }
+    requires { IsIndexedIn heap.now given.now }
     ensures { IfOk result (λ v.
         v.items ≡ shown_text (state_of heap.now) (plain_given heap.now given.now)) }
 {
@@ -76,7 +104,7 @@ fn shown_text<L: Ledger>(
     }
     match &given.altered {
         None => value_text(alloc, &given.value, heap, steps),
-        Some(altered) => altered_text(alloc, altered, heap, steps),
+        Some(altered) => altered_text(alloc, &given.value, altered, heap, steps),
     }
 }
 
@@ -87,7 +115,7 @@ pub fn bare<L: Ledger>(
     heap: &Heap,
     steps: &mut Steps<L>,
 ) -> Result<Effect, EvalFail>
-    requires { IsGivenIn heap.now given }
+    requires { IsIndexedIn heap.now given }
     ensures answer { AnswersAs (plain_effect heap.now)
         (bare (state_of heap.now) (plain_given heap.now given.entry)) result }
     ensures fits { IfOk result (λ e. FitsIn heap.now e.change) }

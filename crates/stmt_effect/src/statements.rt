@@ -1,26 +1,77 @@
-ghost use Rattle.std.specs.Prelude.{IfOk, IsSome, Some, map};
+ghost use Rattle.std.specs.Prelude.{IfErr, IfOk, IsSome, Option, Some, map};
+ghost use Rattle.dt_world.specs.Told.{FileMap};
+ghost use Rattle.eval_fail.specs.Answers.{AnswersAs, IsOwn};
 ghost use Rattle.file_value.specs.Answers.{Gives};
 ghost use Rattle.file_value.specs.Reads.{OnlyReads, files_seen};
 ghost use Rattle.func_table.specs.Calls.{func_of, kind_of};
 ghost use Rattle.session_model.specs.Calls.{command_of, command_named, command_step, bound_command};
 ghost use Rattle.session_model.specs.Meaning.{meaning, arg_meaning};
-ghost use Rattle.session_model.specs.Statement.{value_step, step_of, step};
+ghost use Rattle.session_model.specs.Statement.{step, step_of, value_effect, value_step};
 ghost use Rattle.session_model.specs.World.{look};
 ghost use Rattle.stmt_change.specs.Effects.{plain_effect, FitsIn};
 ghost use Rattle.stmt_effect.specs.Does.{Does, session_of};
+ghost use Rattle.stmt_value.specs.Values.{plain_given, scene, IsGivenIn, IsIndexedIn};
+ghost use Rattle.table_heap.specs.State.{state_of};
 
 use crate::assigned::assigned;
 use crate::commands::command;
 use crate::printed::bare;
 use arg_bind::bind;
+use auto_index::indexed;
 use dt_base::{Code, Steps, Text};
 use dt_tree::{Arg, Expr, Stmt};
 use dt_world::Files;
+use eval_fail::EvalFail;
+use file_value::unread;
 use func_table::{Func, Kind, func_named, func_word, kind_of};
 use std::alloc::Global;
 use std::sync::ledger::Ledger;
 use stmt_change::Effect;
-use stmt_value::{Setting, ValueFail, is_served, refusal, refusal_unbuilt, whole};
+use stmt_value::{Given, Setting, ValueFail, is_served, refusal, refusal_unbuilt, whole};
+use table_heap::Heap;
+
+/// What a value does, by itself or with a name.
+fn value_effect<L: Ledger>(
+    alloc: Global,
+    given: Given<'_>,
+    target: &Option<Text>,
+    heap: &Heap,
+    steps: &mut Steps<L>,
+) -> Result<Effect, EvalFail>
+    requires { IsIndexedIn heap.now given }
+    ensures answer { AnswersAs (plain_effect heap.now)
+        (value_effect target.now (state_of heap.now) (plain_given heap.now given.entry)) result }
+    ensures fits { IfOk result (λ e. FitsIn heap.now e.change) }
+    ensures own { IfErr result IsOwn }
+{
+    match target {
+        None => bare(alloc, given, heap, steps),
+        Some(name) => assigned(alloc, name, given, steps),
+    }
+}
+
+/// What the value of an expression does, with the index that the statement adds.
+fn given_step<L: Ledger>(
+    alloc: Global,
+    e: &Expr,
+    given: Given<'_>,
+    target: &Option<Text>,
+    setting: &Setting<'_>,
+    steps: &mut Steps<L>,
+) -> Result<Effect, EvalFail>
+    requires { IsGivenIn setting.now.heap.now given }
+    ensures answer { (held : Option FileMap) → AnswersAs (plain_effect setting.now.heap.now)
+        (value_effect target.now (state_of setting.now.heap.now)
+        ((meaning e.now).indexed (scene held setting.now)
+        (plain_given setting.now.heap.now given.entry))) result }
+    ensures fits { IfOk result (λ e. FitsIn setting.now.heap.now e.change) }
+    ensures own { IfErr result IsOwn }
+{
+    match indexed(alloc, e, given, setting, steps) {
+        Ok(given) => value_effect(alloc, given, target, setting.heap, steps),
+        Err(fail) => Err(fail),
+    }
+}
 
 /// What a statement does whose expression is a value.
 fn value_step<F: Files, L: Ledger>(
@@ -37,10 +88,9 @@ fn value_step<F: Files, L: Ledger>(
     ensures files { OnlyReads (files_seen F.held F.read_faults F.misses F.longs F.write_faults)
         files.old files.new result }
 {
-    let given = whole(alloc, e, setting, files, steps)?;
-    match target {
-        None => Ok(bare(alloc, given, setting.heap, steps)?),
-        Some(name) => Ok(assigned(alloc, name, given, steps)?),
+    match whole(alloc, e, setting, files, steps) {
+        Ok(given) => unread(given_step(alloc, e, given, target, setting, steps)),
+        Err(fail) => Err(fail),
     }
 }
 
@@ -131,6 +181,7 @@ fn known_step<F: Files, L: Ledger>(
         Kind::Table | Kind::Vector | Kind::Description => {
             value_step(alloc, e, target, setting, files, steps)
         }
+        Kind::Report | Kind::Rows => value_step(alloc, e, target, setting, files, steps),
         Kind::Command => command_step(alloc, f, args, target, setting, files, steps),
     }
 }

@@ -51,6 +51,8 @@ sign_gives e w h =
 known_alike : (k : Kind) (name : List ℕ) (f : Func) (args : List ArgMeaning) (w : Scene) → kind_gives k name f args w ≡ known_call k f args (call_given name args) w
 known_alike kind.Vector name f args w = refl
 known_alike kind.Description name f args w = refl
+known_alike kind.Report name f args w = refl
+known_alike kind.Rows name f args w = refl
 known_alike kind.Table name f args w = refl
 known_alike kind.Command name f args w = refl
 

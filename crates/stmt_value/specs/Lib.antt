@@ -1,4 +1,5 @@
 pub mod Calls
 pub mod Chains
+pub mod Reports
 pub mod Told
 pub mod Values

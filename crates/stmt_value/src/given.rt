@@ -8,6 +8,7 @@ use dt_table::{Change, Table};
 use na_vector::Column;
 use std::alloc::AllocError;
 use std::sync::ledger::Ledger;
+use stmt_change::Altered;
 use table_heap::Id;
 
 /// What an expression gives.
@@ -22,13 +23,6 @@ pub enum Value<'a> {
     /// A vector that a name is bound to.
     Kept(&'a Column),
     Null,
-}
-
-/// A change of a table that names are bound to, which is made when the statement is done.
-#[derive(Drop)]
-pub struct Altered {
-    pub id: Id,
-    pub parts: Change,
 }
 
 /// A value with its warnings, the table that it alters, and whether it prints without a name.
@@ -124,7 +118,11 @@ impl<'a> Given<'a> {
             Value::Named(id) => Ok(Given {
                 value: Value::Named(id),
                 warns,
-                altered: Some(Altered { id, parts }),
+                altered: Some(Altered {
+                    id,
+                    index: None,
+                    parts: Some(parts),
+                }),
                 shown: false,
             }),
             Value::New(table) => {

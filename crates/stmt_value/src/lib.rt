@@ -16,11 +16,13 @@
 
 mod chains;
 mod given;
+mod reports;
 mod values;
 mod vectors;
 
 pub use file_value::{ValueFail, refusal, refusal_unbuilt};
-pub use given::{Altered, Given, Value};
+pub use given::{Given, Value};
 pub use served_forms::is_served;
+pub use stmt_change::Altered;
 pub use stmt_setting::Setting;
 pub use values::{argument, named_file, value, wanted_table, whole};

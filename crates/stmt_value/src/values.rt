@@ -17,6 +17,7 @@ ghost use Rattle.vector_model.specs.Then.{then_do};
 
 use crate::chains::{called, chained};
 use crate::given::{Given, Value};
+use crate::reports::{report_call, report_value};
 use crate::vectors::{table_value, vector_value};
 use arg_bind::{bind, place, text_literal};
 use dt_base::{Code, Steps};
@@ -102,7 +103,8 @@ fn copied<L: Ledger>(
     table.copy(alloc, steps)
 }
 
-/// What an expression gives as a statement's value: what `value` gives.
+/// What an expression gives as a statement's value: what `value` gives, but that `key` and `indices`
+/// have their values here alone.
 pub fn whole<'a, F: Files, L: Ledger>(
     alloc: Global,
     e: &Expr,
@@ -115,7 +117,10 @@ pub fn whole<'a, F: Files, L: Ledger>(
     ensures files { OnlyReads (files_seen F.held F.read_faults F.misses F.longs F.write_faults)
         files.old files.new result }
 {
-    value(alloc, e, setting, files, steps)
+    match report_call(e) {
+        Some(call) => unread(report_value(alloc, call, setting)),
+        None => value(alloc, e, setting, files, steps),
+    }
 }
 
 /// What an expression gives, as a head and where a table is wanted.
@@ -213,6 +218,7 @@ fn known_call<'a, F: Files, L: Ledger>(
 {
     match kind_of(f) {
         Kind::Vector | Kind::Description => unread(vector_value(alloc, e, setting, steps)),
+        Kind::Report | Kind::Rows => unread(vector_value(alloc, e, setting, steps)),
         Kind::Command => unread(Err(stop(alloc, Code::E19, func_word(f)))),
         Kind::Table => bound_call(alloc, f, args, setting, files, steps),
     }

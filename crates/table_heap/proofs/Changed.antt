@@ -1,19 +1,18 @@
 -- Heaps with one table changed: what a place has then, and heaps that are the same but for spare numbers.
 use Rattle.std.proofs.Common.{◌≡◌, ◌<◌, ℕ, zero, suc, [], ◌∷◌, map, Option, Some, None, refl, sym, ap, subst, ◌∙◌}
-use Rattle.std.proofs.Common.{inl, inr, slice_set}
+use Rattle.std.proofs.Common.{inl, inr, slice_set, Result, Ok, Err, OnOk}
 use Rattle.std.proofs.lemmas.Bool.{cases_eq}
 use Rattle.std.specs.FinMap.{from_entries, get}
 use Rattle.dt_model.specs.State.{IsNamed}
 use Rattle.dt_model.specs.Table.{heads_of, rows_of, names_at}
-use Rattle.dt_table.proofs.Applying.{FitsTable-same}
-use Rattle.dt_table.specs.Change.{ChangeSeen, FitsTable}
 use Rattle.dt_table.specs.Plain.{plain}
-use Rattle.dt_table.specs.Table.{HasSame, IsTable, TableSeen}
+use Rattle.dt_table.specs.Table.{HasSame, TableSeen}
 use Rattle.table_heap.specs.declared.bound.Bound.{Bound}
 use Rattle.table_heap.specs.declared.bound.Bound.TheVariants.{Table, Vector}
 use Rattle.table_heap.specs.declared.bound.Id.{Id}
 use Rattle.table_heap.specs.declared.bound.Numbered.{Numbered}
-use Rattle.table_heap.specs.Changes.{FitsAt, HoldsSame, SameNumbered, SamePlace, SamePlaces, StaysLive}
+use Rattle.table_heap.specs.Changes.{HoldsSame, SameNumbered, SamePlace, SamePlaces}
+use Rattle.table_heap.specs.Changes.{StaysLive}
 use Rattle.table_heap.specs.Heap.{IsApart, IsFresh, IsHeap, IsThere}
 use Rattle.table_heap.specs.Lending.{with_table_at}
 use Rattle.table_heap.specs.Seen.{HasNumber, HeapSeen, IsAt, IsTableAt, Slots, slot_at}
@@ -201,13 +200,7 @@ put_same h id t w at s = record {
   next = refl;
 }
 
--- a change fits a table that differs in spare numbers alone
-pub put_fits : (h : HeapSeen) (id : Id) (t w : TableSeen) (ch : ChangeSeen) → IsAt h id → IsTableAt h id t → IsTable t
-    → HasSame t w → FitsAt h id ch → FitsAt (with_table_at h id w) id ch
-put_fits h id t w ch at place table same f = record {
-  table = w;
-  place = put_at h id w at;
-  fits =
-      FitsTable-same t w ch ch table same refl
-      (subst (λ u. FitsTable u ch) (one_table h id f.table t f.place place) f.fits);
-}
+-- what follows from an answer that is no error
+pub on_ok : {T E : Type 0} (P Q : Type 0) (r : Result T E) → (P → Q) → OnOk r P → OnOk r Q
+on_ok P Q (Ok x) f h = f h
+on_ok P Q (Err e) f h = h

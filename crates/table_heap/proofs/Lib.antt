@@ -4,4 +4,5 @@ pub mod Heaps
 pub mod Plain
 pub mod Slots
 pub mod PlainTables
+mod WithIndex
 mod Changed

@@ -3,16 +3,15 @@
 --   HoldsSame old new     two heaps are the same but for spare numbers
 --   StaysLive old new     each Id that was live is live
 --   SameHeaps             what follows of heaps that are the same but for spare numbers
---   FitsAt h id ch        the change may be made of the Id's table
---   RoomAt h id ch        that table has room for it
 --   RenamesAt h id cols names    these columns of the table may get these names
+--   KeyedAt h id key      these columns may be recorded as the table's key
 --   ChangesAt h id f new  new is the state of h where the Id's table has become what f says, plainly
 use Rattle.std.specs.Prelude.{◌≡◌, ℕ, List, [], ◌∷◌, length, Option, None, Some}
 use Rattle.dt_model.specs.State.{State, with_table}
 use Rattle.dt_model.specs.Table.{PlainTable}
-use Rattle.dt_table.specs.Change.{ChangeSeen, FitsTable, RoomFor}
 use Rattle.dt_table.specs.Plain.{plain}
-use Rattle.dt_table.specs.Table.{HasSame, IsColumnList, IsNames, TableSeen, renamed}
+use Rattle.dt_table.specs.Table.{HasSame, HasTrueKey, IsColumnList, IsNames, TableSeen, renamed}
+use Rattle.na_vector.specs.Frame.{vectors_of}
 use Rattle.table_heap.specs.declared.bound.Id.{Id}
 use Rattle.table_heap.specs.declared.bound.Numbered.{Numbered}
 use Rattle.table_heap.specs.Heap.{IsHeap}
@@ -49,6 +48,17 @@ pub record HoldsSame (old new : HeapSeen) : Type 0 where
 abbrev pub StaysLive : HeapSeen → HeapSeen → Type 0
 StaysLive old new = (x : Id) → IsAt old x → IsAt new x
 
+-- ---- A key of the Id's table
+
+-- the columns are in range and none twice, and no row stands above the next one over them
+pub record KeyedAt (h : HeapSeen) (id : Id) (chosen : List ℕ) : Type 0 where
+  pub table : TableSeen
+  pub place : IsTableAt h id table
+  pub cols : IsColumnList (length table.names) chosen
+  pub true_key : HasTrueKey table.frame.rows (vectors_of table.frame.columns) chosen
+
+-- ---- What follows
+
 -- It holds of a heap and itself, and goes on from heap to heap. Such heaps stand for one state, one Id is
 -- live in both, and where one is a heap the other is.
 pub record SameHeaps : Type 0 where
@@ -59,18 +69,6 @@ pub record SameHeaps : Type 0 where
   pub heap : (a b : HeapSeen) → HoldsSame a b → IsHeap a.held → IsHeap b.held
 
 -- ---- A change of the Id's table
-
--- the change may be made of it
-pub record FitsAt (h : HeapSeen) (id : Id) (ch : ChangeSeen) : Type 0 where
-  pub table : TableSeen
-  pub place : IsTableAt h id table
-  pub fits : FitsTable table ch
-
--- and it has room for it
-pub record RoomAt (h : HeapSeen) (id : Id) (ch : ChangeSeen) : Type 0 where
-  pub table : TableSeen
-  pub place : IsTableAt h id table
-  pub room : RoomFor table ch
 
 -- the columns are in range and none twice, each has its new name, and all names are distinct then and
 -- not empty
@@ -88,3 +86,7 @@ ChangesAt h id f new = (t : TableSeen) → IsTableAt h id t → new ≡ with_tab
 -- its plain reading with these names
 abbrev pub plain_renamed : List ℕ → List (List ℕ) → TableSeen → PlainTable
 plain_renamed cols names t = plain (record t { names = renamed cols names t.names })
+
+-- its plain reading with another key, and without indices
+abbrev pub plain_rekeyed : List ℕ → TableSeen → PlainTable
+plain_rekeyed key t = plain (record t { key = key; indices = [] })

@@ -1,5 +1,6 @@
 pub mod Alias
 pub mod Alike
+pub mod Altered
 pub mod Changes
 pub mod Heap
 pub mod Lending

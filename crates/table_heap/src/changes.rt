@@ -1,49 +1,61 @@
 //! Changes of a table, which all its names see. Each is one call behind `Heap::table_mut`.
-ghost use Rattle.std.specs.Prelude.{◌≡◌, ◌+◌, OnOk};
+ghost use Rattle.std.specs.Prelude.{◌≡◌, ◌+◌, [], OnOk};
 ghost use Rattle.dt_model.specs.State as model;
-ghost use Rattle.dt_table.specs.Change.{written_cells};
-ghost use Rattle.dt_table.specs.Plain.{plain, plain_changed};
-ghost use Rattle.table_heap.specs.Changes.{ChangesAt, FitsAt, HoldsSame, plain_renamed, RenamesAt};
-ghost use Rattle.table_heap.specs.Changes.{RoomAt, StaysLive};
+ghost use Rattle.dt_table.specs.Plain.{plain, plain_keyed, plain_unindexed};
+ghost use Rattle.table_heap.specs.Altered.{cells_altered, table_altered, FitsAt, RoomAt};
+ghost use Rattle.table_heap.specs.Changes.{ChangesAt, HoldsSame, KeyedAt, plain_rekeyed};
+ghost use Rattle.table_heap.specs.Changes.{plain_renamed, RenamesAt, StaysLive};
 ghost use Rattle.table_heap.specs.Seen.{IsAt, IsTableAt};
 ghost use Rattle.table_heap.specs.State.{state_of};
 
+use crate::altered::{alter, reserve};
 use crate::{Heap, Id};
 use dt_base::{ColName, Steps};
-use dt_table::{Change, Table};
+use dt_table::{Change, Index, Table};
 use std::alloc::AllocError;
 use std::sync::ledger::Ledger;
 
 impl Heap {
-    /// Makes the room that `apply_change` of this change needs. The change fits the table of the
-    /// Id, which is live. Whatever its answer, spare numbers of that table may have risen, and all
-    /// else is as it was: so is the state, each live Id, and what the change fits.
-    pub fn reserve_change(&mut self, id: Id, change: &Change) -> Result<(), AllocError>
+    /// Makes the room that `apply_change` of these needs. The index and the change fit the table of
+    /// the Id, which is live. Whatever its answer, spare numbers of that table may have risen, and
+    /// all else is as it was: so is the state, and each live Id.
+    pub fn reserve_change(
+        &mut self,
+        id: Id,
+        index: &Option<Index>,
+        parts: &Option<Change>,
+    ) -> Result<(), AllocError>
         requires at { IsAt self.old id }
-        requires fits { FitsAt self.old id change.now }
-        ensures ready { OnOk result (RoomAt self.new id change.now) }
-        ensures fits { FitsAt self.new id change.now }
+        requires fits { FitsAt self.old id index.now parts.now }
+        ensures ready { OnOk result (RoomAt self.new id index.now parts.now) }
         ensures same { HoldsSame self.old self.new }
         ensures live { StaysLive self.old self.new }
         ensures room { self.new.room ≡ self.old.room }
     {
         let table = self.table_mut(id);
-        let _ = table.names();
-        table.reserve_change(change)
+        reserve(table, index, parts)
     }
 
-    /// Makes a change of the table of a live Id. The change fits that table, and there is room for
-    /// it. It takes no memory, and touches each cell that is written.
-    pub fn apply_change<L: Ledger>(&mut self, id: Id, change: Change, steps: &mut Steps<L>)
+    /// Adds an index to the table of a live Id, where there is one, and then makes a change of it,
+    /// where there is one. Both fit that table, and there is room for them. It takes no memory, and
+    /// touches each cell that is written.
+    pub fn apply_change<L: Ledger>(
+        &mut self,
+        id: Id,
+        index: Option<Index>,
+        parts: Option<Change>,
+        steps: &mut Steps<L>,
+    )
         requires at { IsAt self.old id }
-        requires fits { FitsAt self.old id change }
-        requires ready { RoomAt self.old id change }
-        ensures state { ChangesAt self.old id (λ t. plain_changed t change) (state_of self.new) }
+        requires fits { FitsAt self.old id index parts }
+        requires ready { RoomAt self.old id index parts }
+        ensures state { ChangesAt self.old id (λ t. table_altered t index parts)
+            (state_of self.new) }
         ensures live { StaysLive self.old self.new }
         ensures room { self.new.room ≡ self.old.room }
-        ensures touches { steps.new ≡ steps.old + written_cells change.parts }
+        ensures touches { steps.new ≡ steps.old + cells_altered parts }
     {
-        self.table_mut(id).apply(change, steps);
+        alter(self.table_mut(id), index, parts, steps);
     }
 
     /// Gives columns of the table of a live Id other names, in the order of both lists. The columns
@@ -70,5 +82,41 @@ impl Heap {
         ensures room { self.new.room ≡ self.old.room }
     {
         *self.table_mut(id) = table;
+    }
+
+    /// Gives the table of a live Id this key, leaves its rows as they stand, and drops its indices.
+    /// The key's columns are distinct and in range, and no row stands above the next one over them.
+    /// It takes no memory, and touches nothing.
+    pub fn set_key(&mut self, id: Id, key: Vec<usize>)
+        requires at { IsAt self.old id }
+        requires fits { KeyedAt self.old id key.items }
+        ensures state { ChangesAt self.old id (plain_rekeyed key.items) (state_of self.new) }
+        ensures live { StaysLive self.old self.new }
+        ensures room { self.new.room ≡ self.old.room }
+    {
+        let table = self.table_mut(id);
+        table.record_key(key);
+        table.drop_indices();
+    }
+
+    /// Forgets the key of the table of a live Id, and leaves its rows as they stand. It takes no
+    /// memory, and touches nothing.
+    pub fn drop_key(&mut self, id: Id)
+        requires at { IsAt self.old id }
+        ensures state { ChangesAt self.old id (plain_keyed []) (state_of self.new) }
+        ensures live { StaysLive self.old self.new }
+        ensures room { self.new.room ≡ self.old.room }
+    {
+        self.table_mut(id).drop_key();
+    }
+
+    /// Drops all indices of the table of a live Id. It takes no memory, and touches nothing.
+    pub fn drop_indices(&mut self, id: Id)
+        requires at { IsAt self.old id }
+        ensures state { ChangesAt self.old id plain_unindexed (state_of self.new) }
+        ensures live { StaysLive self.old self.new }
+        ensures room { self.new.room ≡ self.old.room }
+    {
+        self.table_mut(id).drop_indices();
     }
 }

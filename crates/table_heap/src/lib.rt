@@ -5,8 +5,9 @@
 //! - `reserve` makes room for one binding. After it `bind_new`, `bind_vector`, `bind_table` and
 //!   `alias` bind one name, and neither they nor `remove` can fail for want of memory. A table that
 //!   loses its last name is dropped.
-//! - `reserve_change` makes room for a change of a table. After it `apply_change` takes no memory;
-//!   nor do `rename` and `put_table`. All names of the table see what they do.
+//! - `reserve_change` makes room for an index and a change of a table. After it `apply_change` takes
+//!   no memory; nor do `rename`, `put_table`, `set_key`, `drop_key` and `drop_indices`. All names of
+//!   the table see what they do.
 //! - `laws::alike`: what the heap and its state have in common, name by name;
 //!   `laws::plain_tables` and `laws::true_tables`: what is so of each table; `laws::same_heaps`:
 //!   what is so of heaps that are the same but for spare numbers.
@@ -20,6 +21,7 @@
 //! table, and removing one, looks through all names once.
 #![tactic(auto)]
 
+mod altered;
 mod bound;
 mod changes;
 mod fails;

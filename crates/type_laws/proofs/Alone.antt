@@ -15,7 +15,7 @@ use Rattle.dt_tree.specs.declared.tree.Expr.TheOpen as layer
 use Rattle.func_table.specs.Calls.{func_of, kind_of as call_kind, arity_of}
 use Rattle.func_table.specs.Special.{special_of}
 use Rattle.func_table.specs.declared.func.Arity.{Arity}
-use Rattle.func_table.specs.declared.func.Arity.TheVariants.{Fixed, Columns as AsColumns, Unnamed}
+use Rattle.func_table.specs.declared.func.Arity.TheVariants.{Fixed, Columns as AsColumns, Unnamed, More, Named as ByName}
 use Rattle.func_table.specs.declared.func.Func.{Func}
 use Rattle.func_table.specs.declared.func.Kind.{Kind}
 use Rattle.func_table.specs.declared.func.Kind.TheVariants as kind
@@ -114,11 +114,15 @@ module _ (s t : Env) (h : SameTypes s t) where
   vectors_same Fixed f args e = ap (λ z. then_do z (type_of f))
       (slots_same (λ m. m.check s) (λ m. m.check t) f args (each_arg args e))
   vectors_same AsColumns f args e = refl
+  vectors_same More f args e = refl
+  vectors_same ByName f args e = refl
 
   kind_same : (k : Kind) (f : Func) (args : List ArgMeaning) → Each (λ a. Alone a.means) args
       → check_kind k s f args ≡ check_kind k t f args
   kind_same kind.Table f args e = refl
   kind_same kind.Command f args e = refl
+  kind_same kind.Report f args e = refl
+  kind_same kind.Rows f args e = refl
   kind_same kind.Vector f args e = ap (λ z. then_do (bound f (names_in args)) (λ _. z))
       (vectors_same (arity_of f) f args e)
   kind_same kind.Description f args e = ap

@@ -7,7 +7,7 @@ use Rattle.dt_model.specs.Combine.{common_of}
 use Rattle.func_table.specs.Calls.{func_of, kind_of as call_kind, arity_of, formals_of, is_flag}
 use Rattle.func_table.specs.declared.formal.Formal.{Formal}
 use Rattle.func_table.specs.declared.func.Arity.{Arity}
-use Rattle.func_table.specs.declared.func.Arity.TheVariants.{Fixed, Columns, Unnamed}
+use Rattle.func_table.specs.declared.func.Arity.TheVariants.{Fixed, Columns, Unnamed, More, Named as ByName}
 use Rattle.func_table.specs.declared.func.Func.{Func}
 use Rattle.func_table.specs.declared.func.Kind.{Kind}
 use Rattle.func_table.specs.declared.func.Kind.TheVariants as kind
@@ -96,11 +96,15 @@ module _ (s : Env) where
   vectors_agree Fixed f args h = agree_then (map slot_kind) kind_of (all_slots (λ m. m.check s) f args)
       (all_slots (λ m. m.value s) f args) (type_of f) (applied f) (slots_agree f args h) (function_agrees f)
   vectors_agree Columns f args h = tt
+  vectors_agree More f args h = tt
+  vectors_agree ByName f args h = tt
 
   kind_agrees : (k : Kind) (f : Func) (args : List ArgMeaning) → Each (λ a. Typed a.means) args
       → Agree kind_of (check_kind k s f args) (value_kind k s f args)
   kind_agrees kind.Table f args h = tt
   kind_agrees kind.Command f args h = tt
+  kind_agrees kind.Report f args h = tt
+  kind_agrees kind.Rows f args h = tt
   kind_agrees kind.Vector f args h = agree_same kind_of (bound f (names_in args))
       (λ _. check_vectors (arity_of f) s f args) (λ _. value_vectors (arity_of f) s f args)
       (λ _. vectors_agree (arity_of f) f args h)

@@ -16,7 +16,7 @@ use Rattle.dt_tree.specs.declared.tree.Expr.TheOpen as layer
 use Rattle.func_table.specs.Calls.{func_of, kind_of as call_kind, arity_of}
 use Rattle.func_table.specs.Special.{special_of}
 use Rattle.func_table.specs.declared.func.Arity.{Arity}
-use Rattle.func_table.specs.declared.func.Arity.TheVariants.{Fixed, Columns as AsColumns, Unnamed}
+use Rattle.func_table.specs.declared.func.Arity.TheVariants.{Fixed, Columns as AsColumns, Unnamed, More, Named as ByName}
 use Rattle.func_table.specs.declared.func.Func.{Func}
 use Rattle.func_table.specs.declared.func.Kind.{Kind}
 use Rattle.func_table.specs.declared.func.Kind.TheVariants as kind
@@ -116,6 +116,8 @@ module _ (s t : Env) (vars : (name : List ℕ) → s.vars name ≡ t.vars name) 
   check_arity Fixed f args e = ap (λ z. then_do z (type_of f))
       (slots_same (λ m. m.check s) (λ m. m.check t) f args (checks args e))
   check_arity AsColumns f args e = refl
+  check_arity More f args e = refl
+  check_arity ByName f args e = refl
 
   value_arity : (a : Arity) (f : Func) (args : List ArgMeaning) → Each (λ a. Equal a.means) args
       → value_vectors a s f args ≡ value_vectors a t f args
@@ -124,12 +126,16 @@ module _ (s t : Env) (vars : (name : List ℕ) → s.vars name ≡ t.vars name) 
   value_arity Fixed f args e = ap (λ z. then_do z (applied f))
       (slots_same (λ m. m.value s) (λ m. m.value t) f args (values args e))
   value_arity AsColumns f args e = refl
+  value_arity More f args e = refl
+  value_arity ByName f args e = refl
 
   kind_equal : (k : Kind) (f : Func) (args : List ArgMeaning) → Each (λ a. Given a.means) args
       → Each Gives (kind_mentions k args)
       → (check_kind k s f args ≡ check_kind k t f args) × (value_kind k s f args ≡ value_kind k t f args)
   kind_equal kind.Table f args h e = (refl, refl)
   kind_equal kind.Command f args h e = (refl, refl)
+  kind_equal kind.Report f args h e = (refl, refl)
+  kind_equal kind.Rows f args h e = (refl, refl)
   kind_equal kind.Vector f args h e = (
     ap (λ z. then_do (bound f (names_in args)) (λ _. z)) (check_arity (arity_of f) f args (args_equal args h e)),
     ap (λ z. then_do (bound f (names_in args)) (λ _. z)) (value_arity (arity_of f) f args (args_equal args h e)),

@@ -1,7 +1,7 @@
 use Rattle.std.proofs.Common.{◌≡◌, map, drop}
 use Rattle.session_model.specs.Expression.{names_in}
 use Rattle.session_model.specs.Meaning.{arg_meaning}
-use Rattle.session_model.specs.Binding.{named, unnamed}
+use Rattle.session_model.specs.Binding.{named}
 use Rattle.arg_bind.proofs.places.place_named.Given as goal
 
 abbrev pub invariant-loop-i : goal.invariant-loop-i

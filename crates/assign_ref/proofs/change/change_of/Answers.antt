@@ -1,12 +1,13 @@
 use Rattle.std.proofs.Common.{◌≡◌, List, All, None, ap, sym, ◌∙◌, subst}
 use Rattle.na_vector.specs.Frame.{vectors_of}
-use Rattle.dt_table.specs.Change.{parts_seen}
+use Rattle.dt_table.specs.Change.{part_names, parts_seen}
 use Rattle.assign_model.specs.Targets.{assign_fault}
 use Rattle.assign_ref.specs.Planned.{parts_of}
 use Rattle.assign_ref.specs.Seen.{rows_seen, targets_seen}
 use Rattle.assign_ref.specs.Values.{FitsTarget, parts_warns}
 use Rattle.assign_ref.specs.declared.target.Target.{Target}
 use Rattle.assign_ref.proofs.Assigning.{is_assigned, is_fitting, targets_fit}
+use Rattle.assign_ref.proofs.Naming.{parts_named}
 use Rattle.assign_ref.proofs.change.change_of.Goals as goal
 
 -- each target has a value that goes with the rows
@@ -31,6 +32,21 @@ returns-clause-fits g c =
     (vectors_of t.frame.columns) (targets_seen l)) c.deref_mut.ensures.value in
     is_fitting t (rows_seen c.args.rows) (targets_seen c.args.targets.items) (parts_seen c.in_ok-parts.parts.items)
     c.names.ensures.table c.requires.filled none parts c.in_ok-parts.ensures.fits
+
+pub returns-clause-names : goal.returns-clause-names
+returns-clause-names g c =
+    let t = c.args.t.now in
+    let parts : parts_seen c.in_ok-parts.parts.items ≡ parts_of t.frame.rows (rows_seen c.args.rows) t.names
+    (vectors_of t.frame.columns) (targets_seen c.args.targets.items) =
+    c.in_ok-parts.ensures.parts ∙ ap (λ (l : List Target). parts_of t.frame.rows (rows_seen c.args.rows) t.names
+    (vectors_of t.frame.columns) (targets_seen l)) c.deref_mut.ensures.value in
+    let fit : All (FitsTarget t.names t.frame.rows (rows_seen c.args.rows)) (targets_seen c.args.targets.items) =
+    subst (λ (l : List Target). All (FitsTarget t.names t.frame.rows (rows_seen c.args.rows)) (targets_seen l))
+    c.deref.ensures.value (targets_fit t.names t.frame.rows (rows_seen c.args.rows)
+    (targets_seen c.deref.result.now) c.in_ok-check_all.ensures.targets) in
+    ap (part_names t.names) parts
+    ∙ parts_named t.frame.rows (rows_seen c.args.rows) t.names (vectors_of t.frame.columns)
+    (targets_seen c.args.targets.items) fit
 
 pub returns-clause-change : goal.returns-clause-change
 returns-clause-change g c =

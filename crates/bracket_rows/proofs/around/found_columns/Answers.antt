@@ -1,4 +1,3 @@
-use Rattle.std.proofs.Common.{sym}
 use Rattle.bracket_rows.proofs.WhatIsMet.{gathered_found}
 use Rattle.bracket_rows.proofs.around.found_columns.Goals as goal
 

@@ -1,8 +1,7 @@
-use Rattle.std.proofs.Common.{◌≡◌, ◌+◌, ◌-◌, ◌<◌, ◌≤◌, ◌==◌, ℕ, suc, ◌∷◌, true, false, List, drop, length, arith, sym}
+use Rattle.std.proofs.Common.{◌≡◌, ◌+◌, ◌≤◌, ◌==◌, ℕ, suc, ◌∷◌, List, drop, arith, sym}
 use Rattle.std.proofs.Common.{ap, ◌∙◌, subst}
 use Rattle.std.specs.List.{IsDistinct}
 use Rattle.dt_table.specs.Change.{PartSeen, cols_of, part_seen, parts_seen, stays_before}
-use Rattle.dt_table.specs.Parts.{goes_before}
 use Rattle.dt_table.proofs.AllParts.{once_past}
 use Rattle.dt_table.proofs.Counting.{part_read, stay_all, stay_less, stay_most, stay_same}
 use Rattle.dt_table.proofs.apply.stays_before.Goals as goal

@@ -1,11 +1,13 @@
-use Rattle.std.proofs.Common.{◌∙◌, map, subst, sym}
+use Rattle.std.proofs.Common.{◌∙◌, ap, map, subst, sym}
 use Rattle.func_table.specs.Calls.{func_of}
 use Rattle.session_model.specs.Meaning.{meaning, arg_meaning, bracket_meaning, query_gives, vector_gives}
 use Rattle.stmt_value.proofs.GivesChain.{gives_query}
 use Rattle.stmt_value.proofs.GivesVector.{call_gives_by, sign_gives}
 use Rattle.file_value.proofs.NoReads.{answered}
 use Rattle.file_value.specs.Answers.{Gives}
-use Rattle.stmt_value.specs.Calls.{call_or}
+use Rattle.session_model.specs.Calls.{copy_of}
+use Rattle.stmt_value.specs.Calls.{call_or, copied_value}
+use Rattle.vector_model.specs.Then.{then_do}
 use Rattle.stmt_value.specs.Values.{plain_given, scene}
 use Rattle.eval_fail.specs.Answers.{AnswersAs}
 use Rattle.session_model.specs.Value as model
@@ -32,3 +34,11 @@ value-returns-in-Query-clause-told g t c told =
     (sym (gives_query c.args.e.now w c.in-Query.head c.in-Query.brackets c.in-Query.is
     ∙ (λ j. query_gives (meaning (sym c.get-in-Query.ensures j)) (map bracket_meaning (sym c.as_slice-in-Query.ensures j)) w)))
     (c.query.ensures.told told)
+
+pub copy_of-returns-in-Ok-clause-told : goal.copy_of-returns-in-Ok-clause-told
+copy_of-returns-in-Ok-clause-told g t c told =
+    let w : model.Scene = scene (g.F.Files.held c.args.files.now) c.args.setting.now in
+    answered (plain_given c.args.setting.now.heap.now) (copy_of (meaning c.args.e.now) w) c.copied_value.result
+    c.unread.result c.unread.ensures
+    (subst (λ o. AnswersAs (plain_given c.args.setting.now.heap.now) o c.copied_value.result)
+    (sym (ap (λ r. then_do r (copied_value w.state)) (c.in-Ok.ensures.told told))) c.copied_value.ensures.answer)

@@ -3,7 +3,8 @@ use Rattle.bracket_columns.specs.Answers.{new_seen}
 use Rattle.session_model.specs.Calls.{given_of}
 use Rattle.session_model.specs.Columns.{arguments_answer}
 use Rattle.session_model.specs.Meaning.{arg_meaning}
-use Rattle.stmt_value.specs.Values.{plain_altered, plain_given, plain_value}
+use Rattle.stmt_change.specs.Altered.{plain_altered}
+use Rattle.stmt_value.specs.Values.{plain_given, plain_value}
 use Rattle.stmt_value.proofs.Refusals.{given_then, refused_then}
 use Rattle.stmt_value.proofs.vectors.table_value.Goals as goal
 

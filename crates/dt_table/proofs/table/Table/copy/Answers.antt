@@ -5,7 +5,7 @@ use Rattle.dt_table.proofs.table.Table.copy.Goals as goal
 -- each part is as the table's
 pub invariant_of-result : goal.invariant_of-result
 invariant_of-result g c =
-    IsTable-copy _ _ _ _ _ _ _ c.self.invariant c.width-own_slots.ensures.frame
+    IsTable-copy _ _ _ _ _ _ _ _ c.self.invariant c.width-own_slots.ensures.frame
     (c.in_ok-names.ensures ∙ c.deref.ensures.value)
     c.in_ok-frame.ensures.ok
     c.in_ok-frame.ensures.rows

@@ -12,7 +12,7 @@ invariant_of-self c =
     c.self.inside.names.items) c.deref_mut.ensures.value in
     let asked : IsNames (renamed c.args.cols.now c.args.names.items c.self.inside.names.items) =
     (rw (← c.self.view_is) at c.requires.names) in
-    IsTable-renamed _ c.rename_columns.new.all.items _ c.self.invariant
+    IsTable-renamed _ c.rename_columns.new.all.items _ _ c.self.invariant
     (ap length names ∙ put_length c.args.cols.now c.args.names.items c.self.inside.names.items) (rw names asked)
 
 pub returns : goal.returns
